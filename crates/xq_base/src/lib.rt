@@ -4,8 +4,10 @@
 
 mod axis;
 mod code;
+mod fun;
 mod item;
 
 pub use axis::{Axis, NodeTest};
 pub use code::Code;
+pub use fun::Fun;
 pub use item::{Atom, FragKey, Item, NodeRef, TextId, Want};
