@@ -1,0 +1,10 @@
+pub mod Bools
+pub mod Exact
+pub mod Follow
+pub mod Laws
+pub mod Past
+pub mod Productions
+pub mod Query
+pub mod Short
+pub mod Steps
+pub mod Turns

@@ -1,0 +1,10 @@
+use Rattle.std.proofs.Common.{◌≡◌, ◌-◌}
+use Rattle.query_engine.specs.declared.token.Kind.TheVariants as k
+use Rattle.query_engine.specs.Look.{is_kind}
+use Rattle.query_engine.specs.Reading as r
+use Rattle.query_engine.specs.Outcomes.{within}
+use Rattle.query_engine.specs.Parsers.{many_from}
+use Rattle.query_engine.proofs.grammar.Grammar.more_binds.Given as goal
+
+abbrev pub invariant-loop-turn : goal.invariant-loop-turn
+invariant-loop-turn g l = within r.more_binds l.self.text.now l.self.depth l.at ≡ many_from (is_kind l.self.text.now k.Comma) (within r.next_bind l.self.text.now l.self.depth) (l._turn-end - l._turn) l.found l.end

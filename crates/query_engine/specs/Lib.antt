@@ -1,0 +1,10 @@
+pub mod Bytes
+pub mod Grammar
+pub mod Look
+pub mod Outcomes
+pub mod Parsers
+pub mod Query
+pub mod Reading
+pub mod Rules
+pub mod Tokens
+pub mod Words

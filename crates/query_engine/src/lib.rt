@@ -1,0 +1,14 @@
+//! From the text of a query to the bytes of its answer: reading, scope, normalisation, evaluation.
+//! A query that the static rules refuse gives no Core, and a failing evaluation no bytes.
+//! Theorem: `compile` refuses exactly by the grammar and the scope; `answer` gives the value or the first failure.
+#![tactic(auto)]
+
+mod bytes;
+mod fault;
+mod grammar;
+mod look;
+
+
+mod token;
+mod tree;
+
