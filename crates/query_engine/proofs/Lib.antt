@@ -1,10 +1,13 @@
 pub mod Bools
+pub mod Drops
 pub mod Exact
 pub mod Follow
 pub mod Laws
 pub mod Past
+pub mod Places
 pub mod Productions
 pub mod Query
 pub mod Short
 pub mod Steps
 pub mod Turns
+pub mod Unfolds

@@ -1,10 +1,12 @@
 pub mod Bytes
 pub mod Grammar
 pub mod Look
+pub mod Normal
 pub mod Outcomes
 pub mod Parsers
 pub mod Query
 pub mod Reading
 pub mod Rules
+pub mod Scope
 pub mod Tokens
 pub mod Words

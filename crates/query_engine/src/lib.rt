@@ -7,6 +7,8 @@ mod bytes;
 mod fault;
 mod grammar;
 mod look;
+mod names;
+mod scope;
 
 
 mod token;
