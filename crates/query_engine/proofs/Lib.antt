@@ -1,4 +1,5 @@
 pub mod Bools
+pub mod Chains
 pub mod Drops
 pub mod Exact
 pub mod Follow

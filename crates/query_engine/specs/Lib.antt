@@ -1,6 +1,7 @@
 pub mod Bytes
 pub mod Grammar
 pub mod Look
+pub mod Nested
 pub mod Normal
 pub mod Outcomes
 pub mod Parsers

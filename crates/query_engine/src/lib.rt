@@ -8,6 +8,7 @@ mod fault;
 mod grammar;
 mod look;
 mod names;
+mod normal;
 mod scope;
 
 
