@@ -1,5 +1,5 @@
 -- The outcome is the value, or the least of the failures that are reached.
-use Rattle.std.proofs.Common.{◌≡◌, ℕ, zero, suc, ◌+◌, ◌<◌, ◌≤◌, Bool, true, false, ◌&&◌, ◌||◌, ◌==◌, nat_lt, cond, List, [], ◌∷◌, ◌++◌, Option, Some, None, Result, Ok, Err, refl, sym, ap, ◌∙◌, subst, add_assoc, arith}
+use Rattle.std.proofs.Common.{◌≡◌, ℕ, zero, suc, ◌+◌, ◌<◌, ◌≤◌, Bool, true, false, ◌&&◌, ◌||◌, ◌==◌, nat_lt, cond, List, [], ◌∷◌, ◌++◌, Option, Some, None, Result, Ok, Err, refl, sym, ap, ◌∙◌, subst, add_assoc, append_assoc, arith}
 use Rattle.std.proofs.lemmas.Bool.Decides.{nat_tests}
 use Rattle.std.proofs.lemmas.List.{append-nil}
 use Rattle.xq_base.specs.declared.code.Code.{Code}
@@ -9,7 +9,7 @@ use Rattle.core_meaning.specs.Rules.{Answer, Value, Fault, fun_answer}
 use Rattle.core_meaning.specs.Meaning.{Env, and_then, both, each_from, in_loop, value_in, val, vals}
 use Rattle.core_meaning.specs.Failures.{Failure, where_some, all_from, faults_of, failures_of, fails, is_before, lesser, check_rank, first}
 use Rattle.core_meaning.specs.Outcome.{Failing, failing_of, option_failing, sooner, least, moved, Outcome, then_, behind, joined, each_turn, own_outcome, outcome, outcomes, Agrees}
-use Rattle.core_meaning.proofs.Firsts.{merged, first-append, AtLeast, from-first, ahead-merged, fails_all, fails-seq, turns_fail, fails-for, fails-call, fails_all-more, fails-from, fails_all-from}
+use Rattle.core_meaning.proofs.Firsts.{pick_assoc, merged, first-append, AtLeast, from-first, ahead-merged, fails_all, fails-seq, turns_fail, fails-for, fails-call, fails_all-more, fails-from, fails_all-from}
 
 -- the site of a failure is one of so many nodes
 abbrev pub Below : {A : Type 0} → ℕ → Outcome A → Type 0
@@ -191,3 +191,26 @@ mutual
       subst (Agrees n (outcomes (one_more e es) env) (vals (one_more e es) env vec)) (sym (fails_all-more n e es env vec))
       (after n (nodes e) (outcome e env) (outcomes es env) (val e env vec) (vals es env vec) (fails n e env vec) (fails_all (n + nodes e) es env vec) (λ v vs. v ∷ vs)
       (outcome_agrees e env n vec) (outcomes_agree es env (n + nodes e) vec) (outcome-below e env) (from-first (n + nodes e) _ (fails_all-from es (n + nodes e) env vec)))
+
+abbrev site_of : Failing → ℕ
+site_of f = f.site
+
+abbrev rank_of : Failing → ℕ
+rank_of f = check_rank f.code
+
+pub least_assoc : (f g h : Failing) → least (least f g) h ≡ least f (least g h)
+least_assoc f g h = pick_assoc site_of rank_of f g h
+
+pub joined_assoc : (a b c : Outcome (List Item)) → joined (joined a b) c ≡ joined a (joined b c)
+joined_assoc (Ok u) (Ok v) (Ok w) = ap Ok (append_assoc u v w)
+joined_assoc (Ok u) (Ok v) (Err h) = refl
+joined_assoc (Ok u) (Err g) (Ok w) = refl
+joined_assoc (Ok u) (Err g) (Err h) = refl
+joined_assoc (Err f) (Ok v) (Ok w) = refl
+joined_assoc (Err f) (Ok v) (Err h) = refl
+joined_assoc (Err f) (Err g) (Ok w) = refl
+joined_assoc (Err f) (Err g) (Err h) = ap Err (least_assoc f g h)
+
+pub joined_nothing : (a : Outcome (List Item)) → joined a (Ok []) ≡ a
+joined_nothing (Ok u) = ap Ok (append-nil u)
+joined_nothing (Err f) = refl

@@ -10,7 +10,8 @@ use Rattle.core_meaning.specs.Rules.{Answer, Value, Fault, fun_answer}
 use Rattle.core_meaning.specs.Meaning.{Env, in_loop, val, vals}
 use Rattle.core_meaning.specs.Failures.{Eval, Failure, where_some, all_from, faults_of, reached, reached_all, failures_of, fails, check_rank, is_before, lesser, lesser_of, first}
 
-abbrev before : ℕ → ℕ → ℕ → ℕ → Bool
+-- by a number, then by another
+abbrev pub before : ℕ → ℕ → ℕ → ℕ → Bool
 before s r t q = nat_lt s t || ((s == t) && nat_lt r q)
 
 -- one before another, and that before a third
@@ -32,24 +33,38 @@ left : {A : Type 0} (b : Bool) (x y : A) → b ≡ false → cond b x y ≡ y
 left false x y e = refl
 left true x y e = cc
 
-second : (f g : Failure) → is_before g f ≡ true → lesser f g ≡ g
-second f g e = taken (is_before g f) g f e
+-- the lesser of two by two numbers
+abbrev pub pick : {A : Type 0} → (A → ℕ) → (A → ℕ) → A → A → A
+pick m n f g = cond (before (m g) (n g) (m f) (n f)) g f
 
-stays : (f g : Failure) → is_before g f ≡ false → lesser f g ≡ f
-stays f g e = left (is_before g f) g f e
+module _ {A : Type 0} (m n : A → ℕ) where
+  second : (f g : A) → before (m g) (n g) (m f) (n f) ≡ true → pick m n f g ≡ g
+  second f g e = taken (before (m g) (n g) (m f) (n f)) g f e
 
-assoc : (f g h : Failure) (b c : Bool) → is_before g f ≡ b → is_before h g ≡ c → lesser (lesser f g) h ≡ lesser f (lesser g h)
-assoc f g h true true p q =
-    let r : is_before h f ≡ true = trans h.site (check_rank h.code) g.site (check_rank g.code) f.site (check_rank f.code) q p in
-    ap (λ x. lesser x h) (second f g p) ∙ second g h q ∙ sym (ap (lesser f) (second g h q) ∙ second f h r)
-assoc f g h true false p q = ap (λ x. lesser x h) (second f g p) ∙ stays g h q ∙ sym (ap (lesser f) (stays g h q) ∙ second f g p)
-assoc f g h false true p q = ap (λ x. lesser x h) (stays f g p) ∙ sym (ap (lesser f) (second g h q))
-assoc f g h false false p q =
-    let r : is_before h f ≡ false = neither h.site (check_rank h.code) g.site (check_rank g.code) f.site (check_rank f.code) q p in
-    ap (λ x. lesser x h) (stays f g p) ∙ stays f h r ∙ sym (ap (lesser f) (stays g h q) ∙ stays f g p)
+  stays : (f g : A) → before (m g) (n g) (m f) (n f) ≡ false → pick m n f g ≡ f
+  stays f g e = left (before (m g) (n g) (m f) (n f)) g f e
 
-pub lesser_assoc : (f g h : Failure) → lesser (lesser f g) h ≡ lesser f (lesser g h)
-lesser_assoc f g h = assoc f g h _ _ refl refl
+  assoc : (f g h : A) (b c : Bool) → before (m g) (n g) (m f) (n f) ≡ b → before (m h) (n h) (m g) (n g) ≡ c → pick m n (pick m n f g) h ≡ pick m n f (pick m n g h)
+  assoc f g h true true p q =
+      let r = trans (m h) (n h) (m g) (n g) (m f) (n f) q p in
+      ap (λ x. pick m n x h) (second f g p) ∙ second g h q ∙ sym (ap (pick m n f) (second g h q) ∙ second f h r)
+  assoc f g h true false p q = ap (λ x. pick m n x h) (second f g p) ∙ stays g h q ∙ sym (ap (pick m n f) (stays g h q) ∙ second f g p)
+  assoc f g h false true p q = ap (λ x. pick m n x h) (stays f g p) ∙ sym (ap (pick m n f) (second g h q))
+  assoc f g h false false p q =
+      let r = neither (m h) (n h) (m g) (n g) (m f) (n f) q p in
+      ap (λ x. pick m n x h) (stays f g p) ∙ stays f h r ∙ sym (ap (pick m n f) (stays g h q) ∙ stays f g p)
+
+  pub pick_assoc : (f g h : A) → pick m n (pick m n f g) h ≡ pick m n f (pick m n g h)
+  pick_assoc f g h = assoc f g h _ _ refl refl
+
+abbrev site_of : Failure → ℕ
+site_of f = f.site
+
+abbrev rank_of : Failure → ℕ
+rank_of f = check_rank f.code
+
+lesser_assoc : (f g h : Failure) → lesser (lesser f g) h ≡ lesser f (lesser g h)
+lesser_assoc f g h = pick_assoc site_of rank_of f g h
 
 -- the lesser of two failures that may be absent
 abbrev pub merged : Option Failure → Option Failure → Option Failure
@@ -99,7 +114,7 @@ pub ahead-merged : (f : Failure) (o : Option Failure) (n : ℕ) → f.site < n �
 ahead-merged f None n l p = refl
 ahead-merged f (Some g) n l p =
     let b : is_before g f ≡ false = ahead f.site (check_rank f.code) g.site (check_rank g.code) (omega (arith, l, p)) in
-    ap Some (stays f g b)
+    ap Some (stays site_of rank_of f g b)
 
 unfoldable pub fails_all : ℕ → Exprs → Env → List ℕ → List Failure
 fails_all n es env vec = flat_map failures_of (reached_all n es env vec)

@@ -1,3 +1,4 @@
 pub mod Agreeing
 pub mod Firsts
+pub mod Unfolds
 pub mod Worked

@@ -10,5 +10,6 @@ pub mod Productions
 pub mod Query
 pub mod Short
 pub mod Steps
+pub mod Turning
 pub mod Turns
 pub mod Unfolds

@@ -1,4 +1,5 @@
 pub mod Bytes
+pub mod Evaluating
 pub mod Grammar
 pub mod Look
 pub mod Nested

@@ -4,11 +4,13 @@
 #![tactic(auto)]
 
 mod bytes;
+mod evaluate;
 mod fault;
 mod grammar;
 mod look;
 mod names;
 mod normal;
+mod rules;
 mod scope;
 
 
