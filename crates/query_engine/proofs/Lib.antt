@@ -1,9 +1,12 @@
+pub mod Answers
 pub mod Bools
 pub mod Chains
 pub mod Drops
 pub mod Exact
 pub mod Follow
+pub mod Joined
 pub mod Laws
+pub mod OneMeaning
 pub mod Past
 pub mod Places
 pub mod Productions

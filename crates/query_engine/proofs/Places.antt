@@ -49,3 +49,12 @@ for_least n bs body s inner least found p q r =
     ap (λ m. lesser m found) p
     ∙ ap (lesser (least_place (sources_part (map in_bind bs) s))) (r ∙ ap (λ t. least_place (in_single body t)) q)
     ∙ sym (ap least_place (in_for-out n bs body s) ∙ least-append (sources_part (map in_bind bs) s) (in_single body (inner_scope (vars_of (map in_bind bs)) s)))
+
+-- where there is no least place, there is none
+pub no_least : (ms : List ℕ) → least_place ms ≡ None → ms ≡ []
+no_least [] e = refl
+no_least (m ∷ ms) e = some_left (least_place ms) e
+  where
+    some_left : (o : Option ℕ) → lesser (Some m) o ≡ None → m ∷ ms ≡ []
+    some_left None e = cc
+    some_left (Some n) e = cc

@@ -1,3 +1,4 @@
+pub mod Answering
 pub mod Bytes
 pub mod Evaluating
 pub mod Grammar
@@ -10,5 +11,7 @@ pub mod Query
 pub mod Reading
 pub mod Rules
 pub mod Scope
+pub mod Serial
+pub mod Tails
 pub mod Tokens
 pub mod Words

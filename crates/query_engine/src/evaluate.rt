@@ -39,6 +39,7 @@ pub enum EvalFault {
 
 impl From<AllocError> for EvalFault {
     ghost use Rattle.query_engine.specs.declared.evaluate.EvalFault.TheVariants.{NoMemory};
+
     ghost from_gives = { λ _ e. e ≡ NoMemory };
 
     fn from(_e: AllocError) -> EvalFault {
@@ -48,6 +49,7 @@ impl From<AllocError> for EvalFault {
 
 impl<T: Drop> From<AllocFailed<T>> for EvalFault {
     ghost use Rattle.query_engine.specs.declared.evaluate.EvalFault.TheVariants.{NoMemory};
+
     ghost from_gives = { λ _ e. e ≡ NoMemory };
 
     fn from(_e: AllocFailed<T>) -> EvalFault {
@@ -57,6 +59,7 @@ impl<T: Drop> From<AllocFailed<T>> for EvalFault {
 
 impl From<Want> for EvalFault {
     ghost use Rattle.query_engine.specs.declared.evaluate.EvalFault.TheVariants.{NoMemory};
+
     ghost from_gives = { λ _ e. e ≡ NoMemory };
 
     fn from(_e: Want) -> EvalFault {
@@ -83,7 +86,12 @@ fn look_up(env: &[Binding], var: u32) -> Option<i64>
 }
 
 /// These bindings and two inside them.
-fn extended(alloc: Global, env: &[Binding], outer: Binding, inner: Binding) -> Result<Vec<Binding>, Want>
+fn extended(
+    alloc: Global,
+    env: &[Binding],
+    outer: Binding,
+    inner: Binding,
+) -> Result<Vec<Binding>, Want>
     ensures { IfOk result (λ found. found.items ≡ inner ∷ outer ∷ env.now) }
 {
     let mut found = Vec::new(alloc);
@@ -113,7 +121,8 @@ fn moved(nodes: Option<u64>, fault: EvalFault) -> EvalFault
 fn lesser(first: Failed, second: Failed) -> Failed
     ensures { failing result ≡ least (failing first) (failing second) }
 {
-    let sooner = second.site < first.site || second.site == first.site && rank(second.code) < rank(first.code);
+    let sooner = second.site < first.site
+        || second.site == first.site && rank(second.code) < rank(first.code);
     if sooner { second } else { first }
 }
 
@@ -140,7 +149,9 @@ fn joined(found: Found, turn: Result<Vec<i64>, EvalFault>) -> Result<Found, Want
         }
         (Found::Items(_), Err(EvalFault::Reached(failed))) => Ok(Found::Failing(failed)),
         (Found::Failing(failed), Ok(_)) => Ok(Found::Failing(failed)),
-        (Found::Failing(first), Err(EvalFault::Reached(second))) => Ok(Found::Failing(lesser(first, second))),
+        (Found::Failing(first), Err(EvalFault::Reached(second))) => Ok(Found::Failing(lesser(
+            first, second,
+        ))),
     }
 }
 
@@ -179,7 +190,11 @@ fn one_item(alloc: Global, value: Option<i64>) -> Result<Vec<i64>, EvalFault>
 }
 
 /// A rule's answer at the place of its call.
-fn ruled(offset: u64, arguments: &[Core], answer: Result<Vec<i64>, RuleFault>) -> Result<Vec<i64>, EvalFault>
+fn ruled(
+    offset: u64,
+    arguments: &[Core],
+    answer: Result<Vec<i64>, RuleFault>,
+) -> Result<Vec<i64>, EvalFault>
     ensures { (a : Answer) → Rules a answer → Gives (own_outcome (nodes_all (exprs_of (map expr_of arguments.now))) offset a) result }
 {
     match answer {
@@ -232,7 +247,13 @@ fn turn(
 
 /// A loop's body at each item. All turns are reached, whichever fail.
 #[cycle(eval)]
-fn turns(alloc: Global, vars: (VarId, VarId), body: &Core, items: &[i64], env: &[Binding]) -> Result<Vec<i64>, EvalFault>
+fn turns(
+    alloc: Global,
+    vars: (VarId, VarId),
+    body: &Core,
+    items: &[i64],
+    env: &[Binding],
+) -> Result<Vec<i64>, EvalFault>
     ensures { Gives (each_turn (λ k i. outcome (expr_of body.now) (in_loop vars.0.0 vars.1.0 (env_of env.now) k i)) 1 (items_of items.now)) result }
 {
     let mut found = Found::Items(Vec::new(alloc));

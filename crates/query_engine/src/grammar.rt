@@ -360,5 +360,4 @@ pub fn parse(alloc: Global, text: &[u8]) -> Result<Items<Single>, ParseFault>
 pub fn one_reading()
     ensures tree { (text : List ℕ) (a b : List Single) → IsQuery text a → IsQuery text b → a ≡ b }
     ensures both { (text : List ℕ) (a : List Single) (why : Why) (place : ℕ) → IsQuery text a → IsCut text why place → ⊥ }
-{
-}
+{}

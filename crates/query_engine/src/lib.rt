@@ -1,9 +1,10 @@
 //! From the text of a query to the bytes of its answer: reading, scope, normalisation, evaluation.
-//! A query that the static rules refuse gives no Core, and a failing evaluation no bytes.
-//! Theorem: `compile` refuses exactly by the grammar and the scope; `answer` gives the value or the first failure.
+//! A query that the static rules refuse has no Core, and a failing evaluation no bytes.
+//! `compile` refuses exactly by the grammar and the scope; `answer` gives the value or the first failure.
 #![tactic(auto)]
 
 mod bytes;
+mod engine;
 mod evaluate;
 mod fault;
 mod grammar;
@@ -12,8 +13,8 @@ mod names;
 mod normal;
 mod rules;
 mod scope;
-
-
+mod serial;
 mod token;
 mod tree;
 
+pub use engine::{AnswerFault, CompileFault, answer, compile, one_meaning};

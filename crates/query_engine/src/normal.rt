@@ -169,7 +169,11 @@ fn operands<'a>(alloc: Global, parts: &'a [Primary], names: &Names<'a>) -> Resul
 }
 
 #[cycle(norm)]
-fn loop_sources<'a>(alloc: Global, binds: &'a [Bind], names: &Names<'a>) -> Result<Vec<Source>, Want>
+fn loop_sources<'a>(
+    alloc: Global,
+    binds: &'a [Bind],
+    names: &Names<'a>,
+) -> Result<Vec<Source>, Want>
     ensures { IfOk result (λ found. map source_of found.items ≡ sources (map spec.norm_bind binds.now) names.now) }
 {
     let mut found = Vec::new(alloc);

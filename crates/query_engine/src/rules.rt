@@ -15,6 +15,7 @@ pub enum RuleFault {
 
 impl From<AllocError> for RuleFault {
     ghost use Rattle.query_engine.specs.declared.rules.RuleFault.TheVariants.{NoMemory};
+
     ghost from_gives = { λ _ e. e ≡ NoMemory };
 
     fn from(_e: AllocError) -> RuleFault {
@@ -24,6 +25,7 @@ impl From<AllocError> for RuleFault {
 
 impl<T: Drop> From<AllocFailed<T>> for RuleFault {
     ghost use Rattle.query_engine.specs.declared.rules.RuleFault.TheVariants.{NoMemory};
+
     ghost from_gives = { λ _ e. e ≡ NoMemory };
 
     fn from(_e: AllocFailed<T>) -> RuleFault {

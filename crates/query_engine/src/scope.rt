@@ -20,7 +20,11 @@ fn lesser(first: Option<u64>, second: Option<u64>) -> Option<u64>
 }
 
 #[cycle(unbound)]
-fn in_primary<'a>(alloc: Global, primary: &'a Primary, names: &Names<'a>) -> Result<Option<u64>, Want>
+fn in_primary<'a>(
+    alloc: Global,
+    primary: &'a Primary,
+    names: &Names<'a>,
+) -> Result<Option<u64>, Want>
     ensures { IfOk result (λ place. place ≡ least_place (spec.in_primary primary.now names.now)) }
 {
     match primary {
@@ -72,7 +76,11 @@ fn in_single<'a>(alloc: Global, single: &'a Single, names: &Names<'a>) -> Result
 }
 
 #[cycle(unbound)]
-fn in_primaries<'a>(alloc: Global, parts: &'a [Primary], names: &Names<'a>) -> Result<Option<u64>, Want>
+fn in_primaries<'a>(
+    alloc: Global,
+    parts: &'a [Primary],
+    names: &Names<'a>,
+) -> Result<Option<u64>, Want>
     ensures { IfOk result (λ place. place ≡ least_place (all_parts (map spec.in_primary parts.now) names.now)) }
 {
     let mut least = None;
@@ -83,7 +91,11 @@ fn in_primaries<'a>(alloc: Global, parts: &'a [Primary], names: &Names<'a>) -> R
 }
 
 #[cycle(unbound)]
-fn in_singles<'a>(alloc: Global, parts: &'a [Single], names: &Names<'a>) -> Result<Option<u64>, Want>
+fn in_singles<'a>(
+    alloc: Global,
+    parts: &'a [Single],
+    names: &Names<'a>,
+) -> Result<Option<u64>, Want>
     ensures { IfOk result (λ place. place ≡ least_place (all_parts (map spec.in_single parts.now) names.now)) }
 {
     let mut least = None;

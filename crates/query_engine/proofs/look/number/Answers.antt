@@ -16,7 +16,7 @@ loop-digit-preserved c = record {
   value =
       c.loop-digit.invariant.value
       ∙ digit_turn c.args.digits.now c.loop-digit.so_far c.loop-digit.digit-index c.loop-digit-test.true
-      ∙ ap (λ d. number_from (c.loop-digit.so_far * 10 + d) (drop (c.loop-digit.digit-index + 1) c.args.digits.now)) (sym c.digit_of.ensures.value)
+      ∙ ap (λ d. number_from (c.loop-digit.so_far * 10 + d) (drop (c.loop-digit.digit-index + 1) c.args.digits.now)) (sym c.digit_of.ensures.value);
 }
 
 pub overflow_cast-result : goal.overflow_cast-result

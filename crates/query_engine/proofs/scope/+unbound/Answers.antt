@@ -28,9 +28,9 @@ in_single-returns-in_ok-in_single-in-For t c =
     rw c.in-For.is
     (c.lesser.ensures
     ∙ for_least c.in-For.field-0 c.in-For.binds c.in-For.body c.args.names.now _ _ _
-      (c.in_ok-least-in-For.ensures ∙ ap (λ bs. least_place (sources_part (map in_bind bs) c.args.names.now)) c.as_slice.ensures)
-      (c.in_ok-inner-in-For.ensures ∙ ap (λ bs. inner_scope (vars_of (map in_bind bs)) c.args.names.now) c.as_slice-in-For.ensures)
-      (c.in_ok-in_single-in-For.ensures ∙ ap (λ b. least_place (in_single b c.in_ok-inner-in-For.inner)) c.get.ensures))
+    (c.in_ok-least-in-For.ensures ∙ ap (λ bs. least_place (sources_part (map in_bind bs) c.args.names.now)) c.as_slice.ensures)
+    (c.in_ok-inner-in-For.ensures ∙ ap (λ bs. inner_scope (vars_of (map in_bind bs)) c.args.names.now) c.as_slice-in-For.ensures)
+    (c.in_ok-in_single-in-For.ensures ∙ ap (λ b. least_place (in_single b c.in_ok-inner-in-For.inner)) c.get.ensures))
 
 pub in_sources-loop-bind-preserved : goal.in_sources-loop-bind-preserved
 in_sources-loop-bind-preserved t c =
