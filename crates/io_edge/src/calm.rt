@@ -1,0 +1,71 @@
+ghost use Rattle.std.specs.Prelude.{◌≡◌, Some, None};
+ghost use Rattle.io_edge.specs.Listed.{file_named, or_empty, file_at, left_at};
+
+use crate::edge::{Failed, Shelf, Sink};
+use crate::find::{bytes_of, copy_next, find, rest_of};
+
+/// Files in memory without faults: a name that isn't there is an empty file.
+#[derive(Drop)]
+pub struct CalmShelf {
+    files: Vec<(String, Vec<u8>)>,
+    current: usize,
+    at: usize,
+}
+
+impl CalmShelf {
+    pub fn new(files: Vec<(String, Vec<u8>)>) -> CalmShelf
+        ensures { result.files ≡ files }
+    {
+        let current = files.len();
+        CalmShelf {
+            files,
+            current,
+            at: 0,
+        }
+    }
+}
+
+impl Shelf for CalmShelf {
+    ghost files = { λ s. Some (λ name. Some (or_empty (file_named s.files.items name))) };
+
+    ghost left = { λ s. Some (left_at s.files.items s.current s.at) };
+
+    ghost asked = { λ s. None };
+
+    ghost faults = { λ s. 0 };
+
+    fn open(&mut self, name: &str) -> Result<(), Failed> {
+        self.current = find(self.files.as_slice(), name);
+        self.at = 0;
+        Ok(())
+    }
+
+    fn read(&mut self, buf: &mut [u8]) -> Result<usize, Failed> {
+        let file = bytes_of(self.files.as_slice(), self.current);
+        let taken = copy_next(rest_of(file, self.at), buf, usize::MAX);
+        if taken > 0 {
+            self.at += taken;
+        }
+        Ok(taken)
+    }
+}
+
+/// A sink that takes each piece whole and keeps nothing.
+#[derive(Drop)]
+pub struct CalmSink;
+
+impl CalmSink {
+    pub fn new() -> CalmSink {
+        CalmSink
+    }
+}
+
+impl Sink for CalmSink {
+    ghost taken = { λ s. None };
+
+    ghost faults = { λ s. 0 };
+
+    fn write(&mut self, piece: &[u8]) -> Result<usize, Failed> {
+        Ok(piece.len())
+    }
+}
