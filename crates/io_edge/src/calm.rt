@@ -1,3 +1,4 @@
+//! A shelf and a sink in memory that never fail.
 ghost use Rattle.std.specs.Prelude.{◌≡◌, Some, None};
 ghost use Rattle.io_edge.specs.Listed.{file_named, or_empty, file_at, left_at};
 
@@ -14,7 +15,8 @@ pub struct CalmShelf {
 
 impl CalmShelf {
     pub fn new(files: Vec<(String, Vec<u8>)>) -> CalmShelf
-        ensures { result.files ≡ files }
+        ensures files { ⟦<CalmShelf as Shelf>⟧.files result ≡ Some (λ name. Some (or_empty (file_named files.items name))) }
+        ensures faults { ⟦<CalmShelf as Shelf>⟧.faults result ≡ 0 }
     {
         let current = files.len();
         CalmShelf {
@@ -55,7 +57,11 @@ impl Shelf for CalmShelf {
 pub struct CalmSink;
 
 impl CalmSink {
-    pub fn new() -> CalmSink {
+    /// A sink.
+    pub fn new() -> CalmSink
+        ensures taken { ⟦<CalmSink as Sink>⟧.taken result ≡ None }
+        ensures faults { ⟦<CalmSink as Sink>⟧.faults result ≡ 0 }
+    {
         CalmSink
     }
 }

@@ -1,3 +1,4 @@
+//! Files in a list of names and bytes: the first of a name, and its next bytes.
 ghost use Rattle.std.specs.Prelude.{MatchOption, None, ◌≡◌, ◌≤◌, ◌<◌, length, take, drop, []};
 ghost use Rattle.io_edge.specs.Listed.{file_named, file_at, or_empty, IsPlaceOf};
 

@@ -1,3 +1,4 @@
+//! A sink in memory, some of whose calls fail.
 ghost use Rattle.std.specs.Prelude.{◌≡◌, ◌≤◌, ◌∷◌, [], Some, None};
 
 use crate::edge::{Failed, Sink};
@@ -17,7 +18,8 @@ pub struct MemSink {
 impl MemSink {
     pub fn new(alloc: Global, piece: usize, failing: Vec<u64>) -> MemSink
         requires { 1 ≤ piece }
-        ensures { result.taken.items ≡ [] }
+        ensures taken { ⟦<MemSink as Sink>⟧.taken result ≡ Some [] }
+        ensures faults { ⟦<MemSink as Sink>⟧.faults result ≡ 0 }
     {
         MemSink {
             taken: Vec::new(alloc),
@@ -29,7 +31,7 @@ impl MemSink {
     }
 
     pub fn taken(&self) -> &[u8]
-        ensures { result.now ≡ self.now.taken.items }
+        ensures { ⟦<MemSink as Sink>⟧.taken self.now ≡ Some result.now }
     {
         self.taken.as_slice()
     }

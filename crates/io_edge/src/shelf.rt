@@ -1,3 +1,4 @@
+//! A shelf in memory, some of whose calls fail.
 ghost use Rattle.std.specs.Prelude.{◌≡◌, ◌≤◌, [], ◌∷◌, ◌++◌, Some, map, string_bytes, OnOk, OnErr};
 ghost use Rattle.io_edge.specs.Listed.{file_named, left_open};
 
@@ -36,8 +37,9 @@ impl MemShelf {
         failing: Vec<u64>,
     ) -> MemShelf
         requires { 1 ≤ piece }
-        ensures files { result.files ≡ files }
-        ensures asked { result.asked.items ≡ [] }
+        ensures files { ⟦<MemShelf as Shelf>⟧.files result ≡ Some (file_named files.items) }
+        ensures asked { ⟦<MemShelf as Shelf>⟧.asked result ≡ Some [] }
+        ensures faults { ⟦<MemShelf as Shelf>⟧.faults result ≡ 0 }
     {
         MemShelf {
             files,
@@ -52,7 +54,7 @@ impl MemShelf {
     }
 
     pub fn asked(&self) -> &[String]
-        ensures { result.now ≡ self.now.asked.items }
+        ensures { ⟦<MemShelf as Shelf>⟧.asked self.now ≡ Some (map string_bytes result.now) }
     {
         self.asked.as_slice()
     }
