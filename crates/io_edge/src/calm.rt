@@ -3,7 +3,7 @@ ghost use Rattle.std.specs.Prelude.{◌≡◌, Some, None};
 ghost use Rattle.io_edge.specs.Listed.{file_named, or_empty, file_at, left_at};
 
 use crate::edge::{Failed, Shelf, Sink};
-use crate::find::{bytes_of, copy_next, find, rest_of};
+use crate::find::{find, read_next};
 
 /// Files in memory without faults: a name that isn't there is an empty file.
 #[derive(Drop)]
@@ -43,12 +43,13 @@ impl Shelf for CalmShelf {
     }
 
     fn read(&mut self, buf: &mut [u8]) -> Result<usize, Failed> {
-        let file = bytes_of(self.files.as_slice(), self.current);
-        let taken = copy_next(rest_of(file, self.at), buf, usize::MAX);
-        if taken > 0 {
-            self.at += taken;
-        }
-        Ok(taken)
+        Ok(read_next(
+            self.files.as_slice(),
+            self.current,
+            &mut self.at,
+            buf,
+            usize::MAX,
+        ))
     }
 }
 

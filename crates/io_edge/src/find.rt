@@ -1,6 +1,7 @@
 //! Files in a list of names and bytes: the first of a name, and its next bytes.
-ghost use Rattle.std.specs.Prelude.{MatchOption, None, ◌≡◌, ◌≤◌, ◌<◌, length, take, drop, []};
-ghost use Rattle.io_edge.specs.Listed.{file_named, file_at, or_empty, IsPlaceOf};
+ghost use Rattle.std.specs.Prelude.{MatchOption, Some, None, ◌≡◌, ◌≤◌, ◌<◌, length, take, drop, []};
+ghost use Rattle.io_edge.specs.Listed.{file_named, file_at, or_empty, left_at, IsPlaceOf};
+ghost use Rattle.io_edge.specs.Shelves.{ReadsFrom};
 
 /// The place of the first file of a name.
 pub fn find(files: &[(String, Vec<u8>)], name: &str) -> usize
@@ -20,7 +21,7 @@ pub fn find(files: &[(String, Vec<u8>)], name: &str) -> usize
 }
 
 /// The bytes of the file at a place.
-pub fn bytes_of(files: &[(String, Vec<u8>)], current: usize) -> &[u8]
+fn bytes_of(files: &[(String, Vec<u8>)], current: usize) -> &[u8]
     ensures { result.now ≡ or_empty (file_at files.now current) }
 {
     match files.split_first() {
@@ -36,18 +37,19 @@ pub fn bytes_of(files: &[(String, Vec<u8>)], current: usize) -> &[u8]
 }
 
 /// What comes after the first bytes.
-pub fn rest_of(file: &[u8], at: usize) -> &[u8]
+fn rest_of(file: &[u8], at: usize) -> &[u8]
     ensures { result.now ≡ drop at file.now }
 {
     if at <= file.len() { &file[at..] } else { &[] }
 }
 
 /// Copies the next bytes, at most so many, into the front of the buffer.
-pub fn copy_next(rest: &[u8], buf: &mut [u8], most: usize) -> usize
+fn copy_next(rest: &[u8], buf: &mut [u8], most: usize) -> usize
     requires room { 0 < length buf.old }
     requires most { 0 < most }
     ensures within { result ≤ length buf.old }
     ensures there { result ≤ length rest.now }
+    ensures piece { result ≤ most }
     ensures bytes { take result buf.new ≡ take result rest.now }
     ensures end { result ≡ 0 → rest.now ≡ [] }
 {
@@ -72,4 +74,25 @@ pub fn look_up(files: &[(String, Vec<u8>)], name: &str) -> Option<usize>
             }
         }
     }
+}
+
+/// Takes the next bytes of the file at a place, at most `most`, into the front of the buffer.
+pub fn read_next(
+    files: &[(String, Vec<u8>)],
+    current: usize,
+    at: &mut usize,
+    buf: &mut [u8],
+    most: usize,
+) -> usize
+    requires room { 0 < length buf.old }
+    requires most { 0 < most }
+    ensures within { result ≤ length buf.old }
+    ensures piece { result ≤ most }
+    ensures bytes { ReadsFrom (left_at files.now current at.old) (Some (left_at files.now current at.new)) result buf.new }
+{
+    let taken = copy_next(rest_of(bytes_of(files, current), *at), buf, most);
+    if taken > 0 {
+        *at += taken;
+    }
+    taken
 }
