@@ -1,5 +1,5 @@
 -- What a shelf of files gives (own rules).
-use Rattle.std.specs.Prelude.{ℕ, ◌≡◌, ◌≤◌, ◌<◌, List, [], ◌∷◌, ◌++◌, ◌⊎◌, length, take, Option, Some, None, Result, Ok, Err}
+use Rattle.std.specs.Prelude.{ℕ, ◌≡◌, ◌≤◌, List, [], ◌∷◌, ◌++◌, ◌⊎◌, length, take, Option, Some, None, Result, Ok, Err}
 use Rattle.io_edge.specs.declared.edge.Failed.{Failed}
 
 -- the bytes of a name's file, where it has one; names are the bytes of their texts

@@ -1,6 +1,8 @@
 //! A shelf and a sink in memory that never fail.
-ghost use Rattle.std.specs.Prelude.{◌≡◌, Some, None};
+ghost use Rattle.std.specs.Prelude.{◌≡◌, ◌<◌, Some, None, length};
+ghost use Rattle.io_edge.specs.Causes.{HasCause};
 ghost use Rattle.io_edge.specs.Listed.{file_named, or_empty, file_at, left_at};
+ghost use Rattle.io_edge.specs.Sinks.{Takes};
 
 use crate::edge::{Failed, Shelf, Sink};
 use crate::find::{find, read_next};
@@ -14,6 +16,7 @@ pub struct CalmShelf {
 }
 
 impl CalmShelf {
+    /// A shelf of these files; the first of a name counts.
     pub fn new(files: Vec<(String, Vec<u8>)>) -> CalmShelf
         ensures files { ⟦<CalmShelf as Shelf>⟧.files result ≡ Some (λ name. Some (or_empty (file_named files.items name))) }
         ensures faults { ⟦<CalmShelf as Shelf>⟧.faults result ≡ 0 }
@@ -72,7 +75,12 @@ impl Sink for CalmSink {
 
     ghost faults = { λ s. 0 };
 
-    fn write(&mut self, piece: &[u8]) -> Result<usize, Failed> {
+    fn write(&mut self, piece: &[u8]) -> Result<usize, Failed>
+        requires { 0 < length piece.now }
+        ensures bytes { Takes (⟦<CalmSink as Sink>⟧.taken self.old) (⟦<CalmSink as Sink>⟧.taken self.new) piece.now result }
+        ensures cause { HasCause (⟦<CalmSink as Sink>⟧.faults self.old) (⟦<CalmSink as Sink>⟧.faults self.new) result }
+        ensures all { result ≡ Ok (length piece.now) }
+    {
         Ok(piece.len())
     }
 }

@@ -1,6 +1,5 @@
 use Rattle.std.proofs.Common.{◌≡◌, ◌≤◌, ◌+◌, ◌-◌, vec_len}
 use Rattle.io_edge.specs.Wholes.{LeftOf}
-use Rattle.io_edge.specs.Shelves.{AppendsName}
 use Rattle.io_edge.proofs.whole.read_whole.Given as goal
 
 abbrev pub invariant-loop-bytes : goal.invariant-loop-bytes

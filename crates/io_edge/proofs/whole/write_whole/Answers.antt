@@ -1,4 +1,4 @@
-use Rattle.std.proofs.Common.{rules, arith, ◌≡◌, ◌≤◌, ℕ, ◌+◌}
+use Rattle.std.proofs.Common.{rules}
 use Rattle.io_edge.proofs.Taking.{TakesOf-next}
 use Rattle.io_edge.proofs.whole.write_whole.Goals as goal
 

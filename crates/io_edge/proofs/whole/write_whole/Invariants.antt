@@ -1,4 +1,4 @@
-use Rattle.std.proofs.Common.{◌≡◌, ◌≤◌, length, ℕ, ◌-◌, take}
+use Rattle.std.proofs.Common.{◌≤◌, length, ◌-◌, take}
 use Rattle.io_edge.specs.Sinks.{TakesOf}
 use Rattle.io_edge.proofs.whole.write_whole.Given as goal
 
