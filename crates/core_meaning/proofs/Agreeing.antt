@@ -1,13 +1,12 @@
 -- The outcome is the value, or the least of the failures that are reached.
-use Rattle.std.proofs.Common.{◌≡◌, ℕ, zero, suc, ◌+◌, ◌<◌, ◌≤◌, Bool, true, false, ◌&&◌, ◌||◌, ◌==◌, nat_lt, cond, List, [], ◌∷◌, ◌++◌, Option, Some, None, Result, Ok, Err, refl, sym, ap, ◌∙◌, subst, add_assoc, append_assoc, arith}
+use Rattle.std.proofs.Common.{◌≡◌, ℕ, ◌+◌, ◌<◌, ◌≤◌, Bool, true, false, ◌&&◌, ◌||◌, ◌==◌, nat_lt, cond, List, [], ◌∷◌, ◌++◌, Option, Some, None, Ok, Err, refl, sym, ap, ◌∙◌, subst, add_assoc, append_assoc, arith}
 use Rattle.std.proofs.lemmas.Bool.Decides.{nat_tests}
 use Rattle.std.proofs.lemmas.List.{append-nil}
-use Rattle.xq_base.specs.declared.code.Code.{Code}
 use Rattle.core_meaning.specs.Items.{Item}
 use Rattle.core_meaning.specs.Expr.{Expr, Exprs, Lit, Empty, Var, Seq, For, Call, no_more, one_more, nodes, nodes_all}
 use Rattle.core_meaning.specs.Rules.{Answer, Value, Fault, fun_answer}
 use Rattle.core_meaning.specs.Meaning.{Env, and_then, both, each_from, in_loop, value_in, val, vals}
-use Rattle.core_meaning.specs.Failures.{Failure, where_some, all_from, faults_of, failures_of, fails, is_before, lesser, check_rank, first}
+use Rattle.core_meaning.specs.Failures.{Failure, where_some, all_from, faults_of, fails, is_before, check_rank, first}
 use Rattle.core_meaning.specs.Outcome.{Failing, failing_of, option_failing, sooner, least, moved, Outcome, then_, behind, joined, each_turn, own_outcome, outcome, outcomes, Agrees}
 use Rattle.core_meaning.proofs.Firsts.{pick_assoc, merged, first-append, AtLeast, from-first, ahead-merged, fails_all, fails-seq, turns_fail, fails-for, fails-call, fails_all-more, fails-from, fails_all-from}
 

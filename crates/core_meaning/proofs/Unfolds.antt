@@ -1,5 +1,5 @@
 -- The code's Core, one level opened.
-use Rattle.std.proofs.Common.{◌≡◌, ℕ, ℤ, List, [], ◌∷◌, map, refl, sym, ap, ◌∙◌}
+use Rattle.std.proofs.Common.{◌≡◌, ℕ, List, map, sym, ap, ◌∙◌}
 use Rattle.xq_base.specs.declared.fun.Fun.{Fun}
 use Rattle.core_meaning.specs.declared.node.Core.{Core}
 use Rattle.core_meaning.specs.declared.node.VarId.{VarId}
@@ -8,7 +8,7 @@ use Rattle.core_meaning.specs.declared.node.CoreKind.TheVariants as k
 use Rattle.core_meaning.specs.declared.node.CoreKind.TheOpen as o
 use Rattle.core_meaning.specs.declared.node.CoreKind.TheFolds.{fold-CoreKind, fold-roll-CoreKind, fold_out-Core}
 use Rattle.core_meaning.specs.declared.node.CoreKind.TheViews.{rolls-Seq, rolls-For, rolls-Call}
-use Rattle.core_meaning.specs.Expr.{Expr, Exprs, Seq, For, Call}
+use Rattle.core_meaning.specs.Expr.{Expr, Seq, For, Call}
 use Rattle.core_meaning.specs.Erasure.{exprs_of, form_of, node_of, expr_of}
 
 form : CoreKind → ℕ → Expr

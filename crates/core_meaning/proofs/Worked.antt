@@ -1,9 +1,9 @@
 -- Worked examples: values, all failures, first failures.
-use Rattle.std.proofs.Common.{◌≡◌, ℕ, zero, suc, ◌+◌, ◌-◌, ◌^◌, List, [], ◌∷◌, ℤ, pos, map, Option, Some, None, refl}
+use Rattle.std.proofs.Common.{◌≡◌, ℕ, ◌-◌, ◌^◌, [], ◌∷◌, pos, map, Some, refl}
 use Rattle.xq_base.specs.declared.code.Code.TheVariants as c
 use Rattle.xq_base.specs.declared.fun.Fun.TheVariants.{Add}
-use Rattle.core_meaning.specs.Items.{Item, Int}
-use Rattle.core_meaning.specs.Expr.{Expr, Exprs, Lit, Empty, Var, Seq, For, Call, no_more, one_more}
+use Rattle.core_meaning.specs.Items.{Int}
+use Rattle.core_meaning.specs.Expr.{Expr, Lit, Empty, Var, Seq, For, Call, no_more, one_more}
 use Rattle.core_meaning.specs.Meaning.{no_variables, val}
 use Rattle.core_meaning.specs.Failures.{Failure, fails}
 use Rattle.core_meaning.specs.Outcome.{first_failing}

@@ -6,7 +6,7 @@ use Rattle.xq_base.specs.declared.code.Code.TheVariants as c
 use Rattle.core_meaning.specs.Items.{Item}
 use Rattle.core_meaning.specs.Expr.{Expr, Exprs, Lit, Empty, Var, Seq, For, Call, no_more, one_more, nodes, nodes_all}
 use Rattle.core_meaning.specs.Rules.{Answer, Value, Fault, fun_answer}
-use Rattle.core_meaning.specs.Meaning.{Env, and_then, in_loop, val, vals}
+use Rattle.core_meaning.specs.Meaning.{Env, in_loop, val, vals}
 
 -- an evaluation of a node. Its site is the node's number in postorder, counted from 0
 pub record Eval : Type 0 where

@@ -1,6 +1,6 @@
 -- The value of an expression or its first failure, both at once. That this is the value, and the least failure of those
 -- that are reached, is a law.
-use Rattle.std.specs.Prelude.{ℕ, ◌+◌, ◌<◌, Bool, ◌&&◌, ◌||◌, ◌==◌, nat_lt, if◌then◌else◌, List, [], ◌∷◌, ◌++◌, Option, Some, None, Result, Ok, Err, ◌≡◌}
+use Rattle.std.specs.Prelude.{ℕ, ◌+◌, Bool, ◌&&◌, ◌||◌, ◌==◌, nat_lt, if◌then◌else◌, List, [], ◌∷◌, ◌++◌, Option, Some, None, Result, Ok, Err, ◌≡◌}
 use Rattle.xq_base.specs.declared.code.Code.{Code}
 use Rattle.core_meaning.specs.Items.{Item}
 use Rattle.core_meaning.specs.Expr.{Expr, Exprs, Lit, Empty, Var, Seq, For, Call, no_more, one_more, nodes, nodes_all}

@@ -1,5 +1,5 @@
 -- What a function or an operator gives of the values of its arguments: a value or a code.
-use Rattle.std.specs.Prelude.{ℕ, ◌-◌, ◌^◌, Bool, true, false, ◌&&◌, not, List, [], ◌∷◌, ℤ, pos, negsuc, ◌+ℤ◌, int_lt, if◌then◌else◌}
+use Rattle.std.specs.Prelude.{◌-◌, ◌^◌, Bool, ◌&&◌, not, List, [], ◌∷◌, ℤ, pos, negsuc, ◌+ℤ◌, int_lt, if◌then◌else◌}
 use Rattle.xq_base.specs.declared.code.Code.{Code}
 use Rattle.xq_base.specs.declared.code.Code.TheVariants as c
 use Rattle.xq_base.specs.declared.fun.Fun.{Fun}

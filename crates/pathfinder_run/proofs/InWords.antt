@@ -1,5 +1,5 @@
 -- The words of a command line in form.
-use Rattle.std.proofs.Common.{◌≡◌, ℕ, List, [], ◌∷◌, map, string_bytes, codes, String, Global, refl, sym, ap, ◌∙◌, subst}
+use Rattle.std.proofs.Common.{◌≡◌, ℕ, List, [], ◌∷◌, map, string_bytes, codes, String, Global, sym, ap, ◌∙◌, subst}
 use Rattle.pathfinder_run.specs.Words.{InForm, IsQueryWord}
 
 pub query_is : (words rest more : List (String Global)) (mode query : String Global) (q : List ℕ) → words ≡ mode ∷ rest → rest ≡ query ∷ more → more ≡ [] → string_bytes mode ≡ codes "run" → q ≡ string_bytes query → IsQueryWord (map string_bytes words) q

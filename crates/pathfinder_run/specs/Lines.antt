@@ -1,5 +1,5 @@
 -- The line that is written to the diagnosis for a status (own rule).
-use Rattle.std.specs.Prelude.{ℕ, List, [], ◌∷◌, ◌++◌, codes, decimal, Option, Some, None, ◌⊎◌}
+use Rattle.std.specs.Prelude.{ℕ, List, [], ◌++◌, codes, decimal, Option, Some, None, ◌⊎◌}
 use Rattle.io_edge.specs.Causes.{Rose}
 use Rattle.io_edge.specs.Sinks.{TakesOf, TakesPrefix}
 use Rattle.xq_base.specs.declared.code.Code.{Code}

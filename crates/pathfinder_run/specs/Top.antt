@@ -1,5 +1,5 @@
 -- What a call answers.
-use Rattle.std.specs.Prelude.{ℕ, ◌≡◌, ◌≤◌, ◌<◌, List, [], ◌∷◌, length, Option, Some, None, Result, Ok, Err}
+use Rattle.std.specs.Prelude.{ℕ, ◌≡◌, ◌≤◌, ◌<◌, List, length, Option, Some, None, Result, Ok, Err}
 use Rattle.std.specs.declared.vec.Vec.{Vec}
 use Rattle.std.specs.declared.alloc.Global.{Global}
 use Rattle.io_edge.specs.Causes.{Rose}
@@ -8,7 +8,7 @@ use Rattle.io_edge.specs.Sinks.{TakesOf, TakesPrefix}
 use Rattle.query_engine.specs.Answering.{Meaning, Refuses, Fails, Writes, Means}
 use Rattle.pathfinder_run.specs.declared.status.Status.{Status}
 use Rattle.pathfinder_run.specs.declared.status.Status.TheVariants as s
-use Rattle.pathfinder_run.specs.Words.{InForm, IsQueryWord, word_at, query_place}
+use Rattle.pathfinder_run.specs.Words.{InForm, IsQueryWord, query_place}
 
 -- the most bytes of a query file
 abbrev pub query_limit : ℕ

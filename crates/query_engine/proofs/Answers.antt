@@ -1,5 +1,5 @@
 -- What the evaluator's outcome says of a query's answer.
-use Rattle.std.proofs.Common.{◌≡◌, ℕ, zero-add, List, [], Option, Some, None, Ok, Err, refl, sym, ap, ◌∙◌, subst}
+use Rattle.std.proofs.Common.{◌≡◌, ℕ, List, [], Some, None, Ok, Err, refl, sym, subst}
 use Rattle.xq_base.specs.declared.code.Code.TheVariants as c
 use Rattle.core_meaning.specs.Items.{Item}
 use Rattle.core_meaning.specs.Expr.{Expr}
@@ -8,7 +8,6 @@ use Rattle.core_meaning.specs.Failures.{fails}
 use Rattle.core_meaning.specs.Outcome.{Failing, moved, Agrees, outcome, first_failing}
 use Rattle.core_meaning.proofs.Agreeing.{outcome_agrees}
 use Rattle.query_engine.specs.declared.tree.Single.{Single}
-use Rattle.query_engine.specs.declared.fault.ParseFault.{ParseFault}
 use Rattle.query_engine.specs.declared.fault.ParseFault.TheVariants.{Syntax, TooDeep}
 use Rattle.query_engine.specs.declared.evaluate.Failed.{Failed}
 use Rattle.query_engine.specs.Evaluating.{failing}

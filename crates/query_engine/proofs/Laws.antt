@@ -1,5 +1,5 @@
 -- Tokens take some of the text.
-use Rattle.std.proofs.Common.{◌≡◌, ℕ, zero, suc, ◌+◌, ◌-◌, ◌<◌, ◌≤◌, Bool, true, false, ◌&&◌, ◌||◌, ◌==◌, cond, List, [], ◌∷◌, length, Option, Some, None, nat_le, nat_lt, refl, sym, ap, ◌∙◌, subst, arith}
+use Rattle.std.proofs.Common.{◌≡◌, ℕ, zero, suc, ◌+◌, ◌-◌, ◌<◌, ◌≤◌, Bool, true, false, ◌||◌, ◌==◌, cond, List, length, Option, Some, None, nat_le, nat_lt, refl, arith}
 use Rattle.std.proofs.lemmas.Grind.{common_steps}
 use Rattle.query_engine.specs.Bytes.{byte, is_digit, is_white, is_letter, is_name_char, ends, run_end, start}
 use Rattle.query_engine.specs.declared.token.Token.{Token}

@@ -2,12 +2,10 @@
 use Rattle.std.proofs.Common.{◌≡◌, ℕ, List, [], Option, Some, None, refl, sym, ap, ◌∙◌, subst}
 use Rattle.xq_base.specs.declared.code.Code.{Code}
 use Rattle.xq_base.specs.declared.code.Code.TheVariants as c
-use Rattle.core_meaning.specs.Items.{Item}
 use Rattle.core_meaning.specs.Expr.{Expr}
-use Rattle.core_meaning.specs.Meaning.{no_variables, val}
-use Rattle.core_meaning.specs.Failures.{fails, first}
+use Rattle.core_meaning.specs.Meaning.{no_variables}
+use Rattle.core_meaning.specs.Failures.{first}
 use Rattle.core_meaning.specs.Outcome.{Failing, option_failing, first_failing}
-use Rattle.query_engine.specs.declared.tree.Single.{Single}
 use Rattle.query_engine.specs.Scope.{unbound, least_place}
 use Rattle.query_engine.specs.Normal.{norm}
 use Rattle.query_engine.specs.Serial.{serial}

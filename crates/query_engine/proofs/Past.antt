@@ -1,7 +1,7 @@
 -- Behind the end of the text nothing stands.
-use Rattle.std.proofs.Common.{◌≡◌, ℕ, zero, suc, ◌<◌, ◌≤◌, ◌-◌, Bool, true, false, List, [], drop, take, length, Option, Some, None, nat_le, refl, sym, ap, ◌∙◌, subst, arith}
+use Rattle.std.proofs.Common.{◌≡◌, ℕ, ◌<◌, ◌-◌, List, [], drop, take, length, None, refl, arith}
 use Rattle.std.specs.Prelude.{slice_range}
-use Rattle.query_engine.specs.Bytes.{start, is_white, ends}
+use Rattle.query_engine.specs.Bytes.{start, ends}
 use Rattle.query_engine.specs.Tokens.{token}
 use Rattle.query_engine.proofs.Laws.{token_none, start_ge}
 

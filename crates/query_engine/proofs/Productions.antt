@@ -1,18 +1,15 @@
 -- Each rule of the reading is exact for its rule of the grammar.
-use Rattle.std.proofs.Common.{◌≡◌, ℕ, zero, suc, ◌+◌, ◌<◌, ◌≤◌, Bool, true, false, ◌||◌, ◌==◌, List, [], ◌∷◌, ◌⊎◌, inl, inr, length, Option, Some, None, refl, sym, ap, ◌∙◌, subst, arith}
+use Rattle.std.proofs.Common.{◌≡◌, ℕ, zero, suc, ◌<◌, Bool, true, false, ◌||◌, ◌==◌, List, [], ◌∷◌, ◌⊎◌, inl, inr, length, refl, subst, arith}
 use Rattle.query_engine.specs.declared.token.Kind.{Kind}
 use Rattle.query_engine.specs.declared.token.Kind.TheVariants as k
 use Rattle.query_engine.specs.declared.tree.Single.{Single}
-use Rattle.query_engine.specs.Bytes.{start}
 use Rattle.query_engine.specs.Tokens.{token}
 use Rattle.query_engine.specs.Look.{among, kind_of, code, is_kind, is_word}
 use Rattle.query_engine.specs.Words.{word_for, word_in, word_return}
-use Rattle.query_engine.specs.Rules.{Rule, ◌▷=◌, ◌▷◌, ◌or◌, gives, many}
+use Rattle.query_engine.specs.Rules.{Rule, ◌▷◌}
 use Rattle.query_engine.specs.Grammar as g
 use Rattle.query_engine.specs.Reading as r
 use Rattle.query_engine.specs.Parsers.{Parser}
-use Rattle.query_engine.proofs.Laws.{Spans, start_ge}
-use Rattle.query_engine.proofs.Bools.{none_of, first_of_two, second_of_two}
 use Rattle.query_engine.proofs.Follow.{differs, word_is_name, no_word, sign_past, end_kind}
 use Rattle.query_engine.proofs.Exact.{Exact, then_exact, gives_exact, told_exact, where_exact, take_exact, cuts_exact, or_exact, many_exact, exact_on, Takes, Strict, then_strict, take_strict, Among, KindIs, only_kind, or_kind, not_among}
 

@@ -5,7 +5,7 @@ use Rattle.query_engine.specs.declared.fault.ParseFault.{ParseFault}
 use Rattle.query_engine.specs.declared.fault.ParseFault.TheVariants.{NoMemory, Syntax, TooDeep}
 use Rattle.query_engine.specs.Rules.{Why, deep}
 use Rattle.query_engine.specs.Reading as r
-use Rattle.query_engine.specs.Parsers.{syntax_fault, cut}
+use Rattle.query_engine.specs.Parsers.{cut}
 use Rattle.query_engine.specs.Outcomes.{Fails}
 use Rattle.query_engine.specs.Query.{IsQuery, IsCut, Faults, ReadsAs}
 use Rattle.query_engine.proofs.Productions.{query_exact}

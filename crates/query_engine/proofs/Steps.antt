@@ -1,10 +1,10 @@
 -- One turn of a loop that reads parts.
-use Rattle.std.proofs.Common.{◌≡◌, ℕ, zero, suc, ◌+◌, ◌-◌, ◌<◌, ◌≤◌, Bool, true, false, cond, List, [], ◌∷◌, ◌++◌, Result, Ok, Err, refl, sym, ap, ◌∙◌, subst, arith}
+use Rattle.std.proofs.Common.{◌≡◌, ℕ, zero, suc, ◌+◌, ◌-◌, ◌<◌, Bool, true, false, List, [], ◌∷◌, ◌++◌, Ok, Err, refl, ap, ◌∙◌, arith}
 use Rattle.query_engine.specs.declared.fault.ParseFault.{ParseFault}
 use Rattle.query_engine.specs.declared.fault.ParseFault.TheVariants.{NoMemory, Syntax, TooDeep}
 use Rattle.query_engine.specs.Rules.{deep}
 use Rattle.query_engine.specs.Outcomes.{Fails}
-use Rattle.query_engine.specs.Parsers.{Fault, syntax_fault, cut, Outcome, Parser, and_then, ◌>>=◌, many_from}
+use Rattle.query_engine.specs.Parsers.{Fault, syntax_fault, cut, Outcome, Parser, and_then, many_from}
 
 step_goes : {A : Type 0} (test : ℕ → Bool) (p : Parser A) (n : ℕ) (found : List A) (at next : ℕ) (a : A) → test at ≡ true → p at ≡ Ok (a, next) → many_from test p (suc n) found at ≡ many_from test p n (found ++ a ∷ []) next
 unfolding many_from

@@ -1,5 +1,5 @@
 -- Evaluation, one step at a time.
-use Rattle.std.proofs.Common.{◌≡◌, ℕ, ℤ, pos, suc, ◌+◌, ◌<◌, ◌≤◌, List, [], ◌∷◌, ◌++◌, length, get_or, take, drop, map, Option, Some, None, Result, Ok, Err, MatchOption, IfSome, refl, sym, ap, ◌∙◌, subst, add_assoc, append_assoc, arith}
+use Rattle.std.proofs.Common.{◌≡◌, ℕ, ℤ, pos, suc, ◌+◌, ◌<◌, ◌≤◌, List, [], ◌∷◌, ◌++◌, length, get_or, take, drop, map, Option, Some, None, Result, Ok, Err, MatchOption, IfSome, sym, ap, ◌∙◌, subst, add_assoc, append_assoc, arith}
 use Rattle.std.proofs.lemmas.List.{map-append, append-nil, drop_all, get_or_default}
 use Rattle.std.proofs.Math.Seq.{take-suc}
 use Rattle.std.specs.declared.vec.Vec.{Vec}
@@ -7,10 +7,10 @@ use Rattle.std.specs.declared.alloc.Global.{Global}
 use Rattle.xq_base.specs.declared.fun.Fun.{Fun}
 use Rattle.core_meaning.specs.declared.node.Core.{Core}
 use Rattle.core_meaning.specs.Items.{Item, Int}
-use Rattle.core_meaning.specs.Expr.{Expr, Exprs, Seq, For, Call, one_more, nodes, nodes_all}
-use Rattle.core_meaning.specs.Rules.{Answer, fun_answer}
+use Rattle.core_meaning.specs.Expr.{Expr, Exprs, Seq, For, Call, nodes, nodes_all}
+use Rattle.core_meaning.specs.Rules.{fun_answer}
 use Rattle.core_meaning.specs.Meaning.{Env, with_var, in_loop}
-use Rattle.core_meaning.specs.Outcome.{Failing, Outcome, moved, behind, joined, each_turn, own_outcome, outcome, outcomes, then_}
+use Rattle.core_meaning.specs.Outcome.{Outcome, behind, joined, each_turn, own_outcome, outcome, outcomes, then_}
 use Rattle.core_meaning.specs.Erasure.{expr_of, exprs_of}
 use Rattle.core_meaning.proofs.Agreeing.{joined_assoc, joined_nothing}
 use Rattle.query_engine.specs.declared.evaluate.EvalFault.{EvalFault}

@@ -1,5 +1,5 @@
 -- Definitions over the tree, one level opened.
-use Rattle.std.proofs.Common.{◌≡◌, ℕ, List, [], ◌∷◌, ◌++◌, map, refl, sym, ap, ◌∙◌}
+use Rattle.std.proofs.Common.{◌≡◌, ℕ, List, ◌++◌, map, sym, ap, ◌∙◌}
 use Rattle.query_engine.specs.declared.tree.Primary.TheFolds.{fold_out-Sum, fold_out-Bind, fold-roll-Single}
 use Rattle.query_engine.specs.declared.tree.Primary.TheOpen as o
 use Rattle.query_engine.specs.declared.tree.Primary.TheViews.{rolls-For}

@@ -1,8 +1,7 @@
 -- What a function that evaluates ensures: the outcome, unless memory runs out.
-use Rattle.std.specs.Prelude.{ℕ, ℤ, ◌≡◌, List, [], ◌∷◌, map, Option, Some, None, Result, Ok, Err}
+use Rattle.std.specs.Prelude.{ℤ, ◌≡◌, List, [], ◌∷◌, map, Option, Some, None, Result, Ok, Err}
 use Rattle.std.specs.declared.vec.Vec.{Vec}
 use Rattle.std.specs.declared.alloc.Global.{Global}
-use Rattle.xq_base.specs.declared.code.Code.{Code}
 use Rattle.core_meaning.specs.Items.{Item, Int}
 use Rattle.core_meaning.specs.Rules.{Answer, Value, Fault}
 use Rattle.core_meaning.specs.Meaning.{Env, no_variables, with_var}

@@ -1,6 +1,6 @@
 -- The grammar, production by production (a part of XQuery 1.0, section A.1). Each rule says between which places of the text
 -- a part stands, and what tree it has there.
-use Rattle.std.specs.Prelude.{◌≡◌, ℕ, ℤ, zero, suc, Bool, true, false, ◌||◌, List, [], ◌∷◌, length, ◌==◌}
+use Rattle.std.specs.Prelude.{ℕ, ℤ, zero, suc, Bool, ◌||◌, List, [], ◌∷◌, length, ◌==◌}
 use Rattle.query_engine.specs.declared.token.Kind.{Kind}
 use Rattle.query_engine.specs.declared.token.Kind.TheVariants as k
 use Rattle.query_engine.specs.declared.tree.Name.{Name}

@@ -1,9 +1,9 @@
 -- What stands at a place: tests, values and ends of tokens.
-use Rattle.std.specs.Prelude.{ℕ, ◌+◌, ◌-◌, ◌*◌, Bool, true, false, ◌&&◌, ◌||◌, ◌==◌, List, [], ◌∷◌, Option, Some, None, slice_range, ℤ, pos, if◌then◌else◌}
+use Rattle.std.specs.Prelude.{ℕ, ◌+◌, ◌-◌, ◌*◌, Bool, false, ◌&&◌, ◌||◌, ◌==◌, List, [], ◌∷◌, Option, Some, None, slice_range, ℤ, pos, if◌then◌else◌}
 use Rattle.query_engine.specs.declared.token.Kind.{Kind}
 use Rattle.query_engine.specs.declared.token.Kind.TheVariants as k
 use Rattle.query_engine.specs.declared.token.Token.{Token}
-use Rattle.query_engine.specs.Bytes.{start, same, is_digit}
+use Rattle.query_engine.specs.Bytes.{same, is_digit}
 use Rattle.query_engine.specs.Tokens.{token}
 
 abbrev pub code : Kind → ℕ

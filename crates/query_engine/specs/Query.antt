@@ -1,5 +1,5 @@
 -- What a query is, and how a text is read.
-use Rattle.std.specs.Prelude.{◌≡◌, ℕ, List, Result, Ok, Err}
+use Rattle.std.specs.Prelude.{ℕ, List, Result, Ok, Err}
 use Rattle.query_engine.specs.declared.tree.Single.{Single}
 use Rattle.query_engine.specs.declared.fault.ParseFault.{ParseFault}
 use Rattle.query_engine.specs.declared.fault.ParseFault.TheVariants.{NoMemory, Syntax, TooDeep}

@@ -1,5 +1,5 @@
 -- Reading, a function for each function of the code.
-use Rattle.std.specs.Prelude.{◌≡◌, ℕ, ℤ, zero, suc, Bool, true, false, List, [], ◌∷◌, length, ◌==◌}
+use Rattle.std.specs.Prelude.{ℕ, ℤ, zero, suc, Bool, List, [], ◌∷◌, length, ◌==◌}
 use Rattle.query_engine.specs.declared.token.Kind.{Kind}
 use Rattle.query_engine.specs.declared.token.Kind.TheVariants as k
 use Rattle.query_engine.specs.declared.tree.Name.{Name}
@@ -14,7 +14,7 @@ use Rattle.query_engine.specs.Look.{is_kind, end_at, text_at, is_word, number_at
 use Rattle.query_engine.specs.Words.{word_for, word_in, word_return}
 use Rattle.query_engine.specs.Rules.{deep}
 use Rattle.query_engine.specs.Grammar.{begins_single, max_level}
-use Rattle.query_engine.specs.Parsers.{Outcome, Parser, and_then, ◌>>=◌, ◌>>◌, give, tell, choose, needs, take_, cuts, many_from}
+use Rattle.query_engine.specs.Parsers.{Parser, ◌>>=◌, ◌>>◌, give, tell, choose, needs, take_, cuts, many_from}
 
 module _ (text : List ℕ) where
   abbrev pub sign : Kind → Parser (Unit {0})

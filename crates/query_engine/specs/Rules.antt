@@ -1,5 +1,5 @@
 -- What a rule of a grammar over places is, and how rules are put together. A place is an offset into the text.
-use Rattle.std.specs.Prelude.{◌≡◌, ℕ, suc, Bool, true, false, not, List, [], ◌∷◌, ◌⊎◌, Option, Some, None}
+use Rattle.std.specs.Prelude.{◌≡◌, ℕ, Bool, true, not, List, [], ◌∷◌, ◌⊎◌, Option, Some, None}
 
 -- why a text is refused at a place: a level too many
 pub data Why : Type 0 where

@@ -1,5 +1,5 @@
 -- The token at a place (a part of XQuery 1.0, section A.2; the letters and the number of digits: own rule).
-use Rattle.std.specs.Prelude.{ℕ, ◌+◌, Bool, true, false, ◌||◌, ◌==◌, List, length, Option, Some, None, nat_le, nat_lt, if◌then◌else◌}
+use Rattle.std.specs.Prelude.{ℕ, ◌+◌, ◌||◌, ◌==◌, List, length, Option, Some, None, nat_le, nat_lt, if◌then◌else◌}
 use Rattle.query_engine.specs.declared.token.Kind.{Kind}
 use Rattle.query_engine.specs.declared.token.Kind.TheVariants as k
 use Rattle.query_engine.specs.declared.token.Token.{Token}

@@ -1,4 +1,4 @@
-use Rattle.std.proofs.Common.{rules, arith}
+use Rattle.std.proofs.Common.{arith}
 use Rattle.pathfinder_run.proofs.Pieces.{pieces_turn, pieces_part}
 use Rattle.pathfinder_run.proofs.diagnosis.write_pieces.Goals as goal
 

@@ -1,4 +1,4 @@
-use Rattle.std.proofs.Common.{◌≡◌, ◌≤◌, length, ◌-◌}
+use Rattle.std.proofs.Common.{◌≡◌, length, ◌-◌}
 use Rattle.query_engine.specs.Bytes.{class_test, ends}
 use Rattle.query_engine.specs.Bytes as spec
 use Rattle.query_engine.proofs.bytes.run_end.Given as goal

@@ -1,15 +1,14 @@
-use Rattle.std.proofs.Common.{◌≡◌, ◌+◌, Err, Ok, ◌++◌, take, map, sym, ap, ◌∙◌, subst, refl, pos, w64, FitsSigned, rules}
+use Rattle.std.proofs.Common.{◌≡◌, ◌+◌, Ok, map, sym, ap, ◌∙◌, subst, refl, pos, w64, FitsSigned, rules}
 use Rattle.std.proofs.lemmas.Int.{to_z-of_z}
 use Rattle.std.proofs.lemmas.Result.{IfOk-weaker}
-use Rattle.core_meaning.specs.Items.{Item, Int}
 use Rattle.core_meaning.specs.Expr.{nodes, nodes_all}
 use Rattle.core_meaning.specs.Rules.{fun_answer}
 use Rattle.core_meaning.specs.Meaning.{in_loop}
-use Rattle.core_meaning.specs.Outcome.{behind, joined, each_turn, own_outcome, outcome, outcomes, then_}
+use Rattle.core_meaning.specs.Outcome.{behind, joined, each_turn, own_outcome, outcome, outcomes}
 use Rattle.core_meaning.specs.Erasure.{expr_of, exprs_of}
 use Rattle.core_meaning.proofs.Unfolds.{expr_seq, expr_for, expr_call}
 use Rattle.query_engine.specs.Evaluating.{Gives, Rules, env_of, items_of, lists_of, found_outcome}
-use Rattle.query_engine.proofs.Turning.{of_match, seq_law, for_law, call_law, turn_law, turns_end, argument_law, argument_fails, arguments_end, turn_env}
+use Rattle.query_engine.proofs.Turning.{of_match, seq_law, for_law, call_law, turn_law, argument_law, argument_fails, arguments_end, turn_env}
 use Rattle.query_engine.proofs.evaluate.+eval.Goals as goal
 
 pub eval-returns-in-Ok : goal.eval-returns-in-Ok

@@ -1,4 +1,4 @@
-use Rattle.std.proofs.Common.{◌≡◌, ◌+◌, ◌*◌, drop, pos, w64, sym, ap, ◌∙◌, arith}
+use Rattle.std.proofs.Common.{◌+◌, ◌*◌, drop, pos, w64, sym, ap, ◌∙◌, arith}
 use Rattle.std.proofs.lemmas.Int.{to_z_pos}
 use Rattle.query_engine.specs.Look.{number_from}
 use Rattle.query_engine.proofs.Short.{one_digit, next_power, short_power, digit_turn, digits_end}

@@ -1,4 +1,4 @@
-use Rattle.std.proofs.Common.{◌≡◌, IfOk, map, sym, ap, ◌∙◌}
+use Rattle.std.proofs.Common.{map, ap, ◌∙◌}
 use Rattle.std.proofs.lemmas.Result.{IfOk-weaker}
 use Rattle.query_engine.specs.Scope.{inner_scope, vars_of, in_bind}
 use Rattle.query_engine.specs.Normal.{norm_bind, norm_single}

@@ -1,4 +1,4 @@
-use Rattle.std.proofs.Common.{◌≡◌, ◌+◌, sym, ap, ◌∙◌, drop, map}
+use Rattle.std.proofs.Common.{◌+◌, sym, ap, ◌∙◌, drop, map}
 use Rattle.query_engine.specs.Scope.{least_place, lesser, all_parts, sources_part, inner_scope, vars_of, in_single, in_primary, in_bind}
 use Rattle.query_engine.proofs.Places.{part_turn, bind_turn, least-append, for_least}
 use Rattle.query_engine.proofs.Unfolds.{in_sum-out}
