@@ -16,3 +16,4 @@ pub mod Steps
 pub mod Turning
 pub mod Turns
 pub mod Unfolds
+pub mod Worked
