@@ -1,2 +1,4 @@
+pub mod Forms
 pub mod InWords
 pub mod Pieces
+pub mod Worked

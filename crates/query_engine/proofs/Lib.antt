@@ -16,4 +16,3 @@ pub mod Steps
 pub mod Turning
 pub mod Turns
 pub mod Unfolds
-pub mod Worked

@@ -17,7 +17,7 @@ use Rattle.query_engine.specs.declared.tree.Name.{Name}
 use Rattle.query_engine.specs.Scope.{unbound, least_place}
 use Rattle.query_engine.specs.Normal.{norm}
 use Rattle.query_engine.specs.Serial.{serial}
-use Rattle.query_engine.proofs.Unfolds.{norm_for-out, norm_sum_form, norm_sum-roll, norm_bind-roll, norm_integer, norm_var, norm_paren, in_sum_form, in_sum-roll, in_var}
+use Rattle.pathfinder_run.proofs.Forms.{norm_loop, norm_sum_form, norm_sum-roll, norm_bind-roll, norm_integer, norm_var, norm_paren, in_sum_form, in_sum-roll, in_var}
 use Rattle.xq_base.specs.declared.fun.Fun.TheVariants.{Add}
 use Rattle.core_meaning.specs.Expr.{Lit, Var, Seq, For, Call, one_more, no_more}
 
@@ -66,7 +66,7 @@ no_binding = simp (in_sum_form, in_sum-roll, in_var) refl
 
 loop_core : norm (loop_tree ∷ []) ≡ For 4 5 (Seq (Lit (Int (pos 1))) (Lit (Int (pos 2)))) (For 17 18 (Seq (Lit (Int (pos 10))) (Lit (Int (pos 20)))) (Call 38 Add (one_more (Var 4) (one_more (Var 17) no_more))))
 unfolding loop_tree sum number named
-loop_core = simp (norm_for-out, norm_sum_form, norm_sum-roll, norm_bind-roll, norm_integer, norm_var, norm_paren) refl
+loop_core = simp (norm_loop, norm_sum_form, norm_sum-roll, norm_bind-roll, norm_integer, norm_var, norm_paren) refl
 
 -- one blank between neighbours, nothing after the last
 four_numbers : serial (Int (pos 11) ∷ Int (pos 21) ∷ Int (negsuc 9) ∷ []) ≡ decimal 11 ++ 32 ∷ (decimal 21 ++ 32 ∷ 45 ∷ decimal 10)
