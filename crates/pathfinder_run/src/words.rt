@@ -1,5 +1,5 @@
 //! The words of the command line.
-ghost use Rattle.std.specs.Prelude.{MatchOption, map, string_bytes};
+ghost use Rattle.std.specs.Prelude.{◌≡◌, IfOk, MatchOption, drop, map, string_bytes};
 ghost use Rattle.pathfinder_run.specs.Words.{InForm, IsQueryWord};
 
 use std::alloc::Global;
@@ -19,13 +19,24 @@ pub fn query_word(words: &[String]) -> Option<&str>
     }
 }
 
-/// The words behind the program's name.
-pub fn all_but_first(alloc: Global, all: Args) -> Result<Vec<String>, Want> {
+/// All words of the outside.
+fn all_of(alloc: Global, all: Args) -> Result<Vec<String>, Want>
+    ensures { IfOk result (λ words. words.items ≡ all.rest.items) }
+{
     let mut words = Vec::new(alloc);
-    let mut rest = all;
-    let _program = rest.next();
-    for word in rest {
+    for word in all {
         words.push(word)?;
+    }
+    Ok(words)
+}
+
+/// The words behind the program's name.
+pub fn all_but_first(alloc: Global, all: Args) -> Result<Vec<String>, Want>
+    ensures { IfOk result (λ words. words.items ≡ drop 1 all.rest.items) }
+{
+    let mut words = all_of(alloc, all)?;
+    if !words.is_empty() {
+        let _program = words.remove(0);
     }
     Ok(words)
 }
