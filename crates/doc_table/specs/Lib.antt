@@ -6,5 +6,8 @@ pub mod Places
 pub mod Identity
 pub mod Items
 pub mod Touched
+pub mod Spine
+pub mod Sound
+pub mod Codes
 pub mod Notes
 pub mod Account

@@ -1,7 +1,7 @@
 -- Paths in trees, and their order (XPath 2.0, section 2.4.1: document order; the order of one
 -- element's attributes is own rule).
 use Rattle.std.specs.Prelude.{ℕ, zero, suc, ◌+◌, ◌-◌, Bool, true, false, ◌&&◌, ◌||◌, List, [], ◌∷◌, ◌++◌, length, map, nat_eq, nat_lt, nat_le, Option, Some, None}
-use Rattle.doc_table.specs.Tree.{Label, OfAttribute, Tree, Forest, Branch, no_more, one_more, root_of, attributes_of}
+use Rattle.doc_table.specs.Tree.{Label, OfAttribute, Tree, Forest, Branch, no_more, one_more, root_of, children_of, attributes_of}
 
 -- the numbers of the children on the way from the root, counted from 1, and then the number of an
 -- attribute, counted from 1, or 0 where the last step is no attribute step
@@ -75,13 +75,10 @@ module _ {T : Type 0} where
   tree_then None f = None
   tree_then (Some t) f = f t
 
-  abbrev pub children_in : Tree T → Forest T
-  children_in (Branch l f) = f
-
   -- the tree below these steps
   abbrev pub subtree : List ℕ → Tree T → Option (Tree T)
   subtree [] t = Some t
-  subtree (i ∷ p) t = tree_then (nth_tree (children_in t) i) (subtree p)
+  subtree (i ∷ p) t = tree_then (nth_tree (children_of t) i) (subtree p)
 
   abbrev pub label_of_pair : Option (T × T) → Option (Label T)
   label_of_pair None = None
