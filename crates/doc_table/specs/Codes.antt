@@ -64,9 +64,9 @@ IsPair gnil = ⊥
 IsPair (gnum n) = ⊥
 IsPair (gcons a b) = Unit {0}
 
-
 mutual
   unfolding code_tree
+
   pub inj_tree : (t u : Tree TextId) → code_tree t ≡ code_tree u → t ≡ u
   inj_tree (Branch l f) (Branch m g) p = λ i. Branch (coded_label.inj l m (ap head_of p) i) (inj_forest f g (ap tail_of p) i)
 

@@ -4,7 +4,9 @@ ghost use Rattle.doc_table.specs.Axes.{id_eq};
 ghost use Rattle.doc_table.specs.Spine.{empty_spine, opened, closed, with_leaf, with_attribute, opening, is_opening, takes_opening, takes_attributes, takes_text, takes_node, has_name_in, text_last, attributes_open, is_some_open, rows_in};
 
 use crate::entry::{Entry, Shape};
-use crate::growth::{add, add_attribute, begin, finish_row, leaf_entry, opening_entry};
+use crate::growth::{
+    add, add_attribute, begin, count, finish_row, leaf_entry, opening_entry, take_place,
+};
 use crate::rows::Kind;
 use std::alloc::Global;
 use std::marker::Model;
@@ -56,8 +58,12 @@ impl FragmentBuilder {
         ensures ok { OnOk result (self.new ≡ opened (opening kind name) self.old) }
         ensures err { OnErr result (self.new ≡ self.old) }
     {
-        let first = self.attributes.len() as u32;
-        begin(&mut self.rows, &mut self.places, opening_entry(kind, name, self.depth, first))?;
+        let first = count(&self.attributes);
+        begin(
+            &mut self.rows,
+            &mut self.places,
+            opening_entry(kind, name, self.depth, first),
+        )?;
         self.depth += 1;
         Ok(())
     }
@@ -80,8 +86,11 @@ impl FragmentBuilder {
         ensures ok { OnOk result (self.new ≡ with_leaf (OfText value) self.old) }
         ensures err { OnErr result (self.new ≡ self.old) }
     {
-        let first = self.attributes.len() as u32;
-        add(&mut self.rows, leaf_entry(Shape::Text, TextId(0), value, self.depth, first))
+        let first = count(&self.attributes);
+        add(
+            &mut self.rows,
+            leaf_entry(Shape::Text, TextId(0), value, self.depth, first),
+        )
     }
 
     /// Adds a comment: as the root, or as the next child of the innermost open node.
@@ -91,8 +100,11 @@ impl FragmentBuilder {
         ensures ok { OnOk result (self.new ≡ with_leaf (OfComment value) self.old) }
         ensures err { OnErr result (self.new ≡ self.old) }
     {
-        let first = self.attributes.len() as u32;
-        add(&mut self.rows, leaf_entry(Shape::Comment, TextId(0), value, self.depth, first))
+        let first = count(&self.attributes);
+        add(
+            &mut self.rows,
+            leaf_entry(Shape::Comment, TextId(0), value, self.depth, first),
+        )
     }
 
     /// Adds an instruction: as the root, or as the next child of the innermost open node.
@@ -102,8 +114,11 @@ impl FragmentBuilder {
         ensures ok { OnOk result (self.new ≡ with_leaf (OfInstruction name value) self.old) }
         ensures err { OnErr result (self.new ≡ self.old) }
     {
-        let first = self.attributes.len() as u32;
-        add(&mut self.rows, leaf_entry(Shape::Pi, name, value, self.depth, first))
+        let first = count(&self.attributes);
+        add(
+            &mut self.rows,
+            leaf_entry(Shape::Pi, name, value, self.depth, first),
+        )
     }
 
     /// Finishes the innermost open node.
@@ -111,9 +126,8 @@ impl FragmentBuilder {
         requires { is_some_open self.old.nodes ≡ true }
         ensures { self.new ≡ closed self.old }
     {
-        if let Some(place) = self.places.pop() {
-            finish_row(&mut self.rows, place);
-        }
+        let place = take_place(&mut self.places);
+        finish_row(&mut self.rows, place);
         self.depth -= 1;
     }
 }

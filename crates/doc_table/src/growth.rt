@@ -13,7 +13,14 @@ const MOST: usize = 4_294_967_294;
 pub(crate) fn leaf_entry(shape: Shape, name: TextId, value: TextId, level: u32, first: u32) -> Entry
     ensures { result ≡ g.leaf_entry shape name value level first }
 {
-    Entry { size: 0, level, first, shape, name, value }
+    Entry {
+        size: 0,
+        level,
+        first,
+        shape,
+        name,
+        value,
+    }
 }
 
 /// The kept row of a document or an element that is begun.
@@ -25,6 +32,14 @@ pub(crate) fn opening_entry(kind: Kind, name: Option<TextId>, level: u32, first:
         (Kind::Element, Some(name)) => leaf_entry(Shape::Element, name, TextId(0), level, first),
         _ => leaf_entry(Shape::Document, TextId(0), TextId(0), level, first),
     }
+}
+
+/// The number of attributes.
+pub(crate) fn count(attributes: &Vec<(TextId, TextId)>) -> u32
+    requires { length attributes.now.items < 2 ^ 32 }
+    ensures { result ≡ length attributes.now.items }
+{
+    attributes.len() as u32
 }
 
 /// Adds a row.
@@ -57,7 +72,11 @@ pub(crate) fn begin(rows: &mut Vec<Entry>, places: &mut Vec<u32>, entry: Entry) 
 }
 
 /// Adds an attribute.
-pub(crate) fn add_attribute(attributes: &mut Vec<(TextId, TextId)>, name: TextId, value: TextId) -> Result<(), Want>
+pub(crate) fn add_attribute(
+    attributes: &mut Vec<(TextId, TextId)>,
+    name: TextId,
+    value: TextId,
+) -> Result<(), Want>
     ensures ok { OnOk result (attributes.new.items ≡ attributes.old.items ++ (name, value) ∷ []) }
     ensures few { OnOk result (length attributes.old.items + 1 < 2 ^ 32 - 1) }
     ensures err { OnErr result (attributes.new.items ≡ attributes.old.items) }
@@ -79,4 +98,15 @@ pub(crate) fn finish_row(rows: &mut Vec<Entry>, place: u32)
 {
     let below = rows.len() as u32 - 1 - place;
     rows[place as usize].size = below;
+}
+
+/// Takes the place of the innermost open row.
+pub(crate) fn take_place(places: &mut Vec<u32>) -> u32
+    requires { 0 < length places.old.items }
+    ensures { places.old.items ≡ places.new.items ++ result ∷ [] }
+{
+    match places.pop() {
+        Some(place) => place,
+        None => 0,
+    }
 }
