@@ -8,3 +8,4 @@ pub mod KeptRows
 pub mod SpineRows
 pub mod Soundness
 pub mod Steps
+pub mod Looks

@@ -25,7 +25,7 @@ use Rattle.doc_table.proofs.Soundness.{sound-put, sound-closed, names-more}
 pub settled : {s : Spine TextId} {rows : List Entry} {as' : Pairs} {places : List ℕ} {depth : ℕ} → Keeps s rows as' places depth → BuilderKeeps rows as' places depth
 settled {s} {rows} {as'} {places} {depth} k = subst (λ z. Keeps z rows as' places depth) (sym k.view) k
 
-many : (s : Spine TextId) (rows : List Entry) (as' : Pairs) (places : List ℕ) (depth : ℕ) → Keeps s rows as' places depth → length rows ≡ rows_in s
+pub many : (s : Spine TextId) (rows : List Entry) (as' : Pairs) (places : List ℕ) (depth : ℕ) → Keeps s rows as' places depth → length rows ≡ rows_in s
 many s rows as' places depth k = sym (length-kept rows as') ∙ ap length k.lines
 
 -- ---- a node is opened
@@ -142,7 +142,7 @@ places-some s rows as' places depth k h = go s.nodes refl h
 
 -- ---- one attribute more
 
-snoc-or-nil : {A : Type 0} (xs : List A) → (xs ≡ []) ⊎ ((ys : List A) × (y : A) × (xs ≡ ys ++ y ∷ []))
+pub snoc-or-nil : {A : Type 0} (xs : List A) → (xs ≡ []) ⊎ ((ys : List A) × (y : A) × (xs ≡ ys ++ y ∷ []))
 snoc-or-nil [] = inl refl
 snoc-or-nil (x ∷ xs) = elim (snoc-or-nil xs) [
   | inl e ↦ inr ([], x, ap (λ z. x ∷ z) e)

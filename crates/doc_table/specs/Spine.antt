@@ -1,5 +1,6 @@
 -- The open nodes of a builder, and what each call makes of them (own rule).
 use Rattle.std.specs.Prelude.{ℕ, zero, suc, ◌≡◌, ◌+◌, ◌-◌, Bool, true, false, not, ◌&&◌, ◌||◌, List, [], ◌∷◌, ◌++◌, length, map, Option, Some, None, is_none, nat_eq}
+use Rattle.std.specs.List.{list_any}
 use Rattle.xq_base.specs.declared.item.TextId.{TextId}
 use Rattle.doc_table.specs.declared.rows.Kind.{Kind}
 use Rattle.doc_table.specs.declared.rows.Kind.TheVariants as k
@@ -85,8 +86,7 @@ module _ {T : Type 0} where
 
   -- an attribute has this name
   abbrev pub is_named : (T → T → Bool) → T → List (T × T) → Bool
-  is_named eq n [] = false
-  is_named eq n (a ∷ as') = eq n a.0 || is_named eq n as'
+  is_named eq n as' = list_any (λ a. eq n a.0) as'
 
   abbrev pub element_has : (T → T → Bool) → T → Label T → Bool
   element_has eq n OfDocument = false

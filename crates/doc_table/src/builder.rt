@@ -4,9 +4,11 @@ ghost use Rattle.doc_table.specs.Axes.{id_eq};
 ghost use Rattle.doc_table.specs.Spine.{empty_spine, opened, closed, with_leaf, with_attribute, opening, is_opening, takes_opening, takes_attributes, takes_text, takes_node, has_name_in, text_last, attributes_open, is_some_open, rows_in};
 
 use crate::entry::{Entry, Shape};
+use crate::fragment::{Fragment, hold};
 use crate::growth::{
-    add, add_attribute, begin, count, finish_row, leaf_entry, opening_entry, take_place,
+    add, add_attribute, begin, count, finish_row, last_place, leaf_entry, opening_entry, take_place,
 };
+use crate::look::{named_at, text_at_end};
 use crate::rows::Kind;
 use std::alloc::Global;
 use std::marker::Model;
@@ -79,6 +81,20 @@ impl FragmentBuilder {
         add_attribute(&mut self.attributes, name, value)
     }
 
+    /// Whether the innermost open node is an element that has an attribute of this name.
+    pub fn has_attribute(&self, name: TextId) -> bool
+        ensures { result ≡ has_name_in id_eq name self.now.nodes }
+    {
+        named_at(&self.rows, &self.attributes, last_place(&self.places), name)
+    }
+
+    /// Whether a node is open and its last child is a text.
+    pub fn after_text(&self) -> bool
+        ensures { result ≡ text_last self.now.nodes }
+    {
+        text_at_end(&self.rows, self.depth)
+    }
+
     /// Adds a text: as the root, or as the next child of the innermost open node.
     pub fn text(&mut self, value: TextId) -> Result<(), Want>
         requires place { takes_text value self.old ≡ true }
@@ -129,5 +145,19 @@ impl FragmentBuilder {
         let place = take_place(&mut self.places);
         finish_row(&mut self.rows, place);
         self.depth -= 1;
+    }
+
+    /// The fragment of the finished root.
+    pub fn finish(self) -> Fragment
+        requires none_open { is_some_open self.nodes ≡ false }
+        requires root { is_some self.root ≡ true }
+        ensures { self.root ≡ Some result }
+    {
+        let FragmentBuilder {
+            rows,
+            attributes,
+            ..
+        } = self;
+        hold(rows, attributes)
     }
 }

@@ -2,6 +2,7 @@ ghost use Rattle.std.specs.Prelude.{◌≡◌, ◌<◌, ◌-◌, ◌^◌, ◌∷
 ghost use Rattle.doc_table.specs.declared.entry.Entry.{Entry};
 ghost use Rattle.doc_table.specs.Kept.{shape_kind, shape_name, shape_value};
 ghost use Rattle.doc_table.specs.Kept.{line_with};
+ghost use Rattle.doc_table.specs.Growth.{is_text_shape};
 ghost use Rattle.doc_table.specs.Enc.{row_of};
 
 use crate::rows::{Kind, Row};
@@ -72,6 +73,20 @@ impl Shape {
 }
 
 impl Entry {
+    /// Whether it is a text.
+    pub(crate) fn is_text(self) -> bool
+        ensures { result ≡ is_text_shape self.shape }
+    {
+        match self.shape {
+            Shape::Text => true,
+            Shape::Document => false,
+            Shape::Element => false,
+            Shape::Unnamed => false,
+            Shape::Comment => false,
+            Shape::Pi => false,
+        }
+    }
+
     /// The row that is handed out.
     pub(crate) fn row(self) -> Row
         ensures { result ≡ row_of (line_with self []) }

@@ -1,4 +1,4 @@
-ghost use Rattle.std.specs.Prelude.{◌≡◌, ◌<◌, ◌≤◌, ◌+◌, ◌-◌, ◌^◌, ◌++◌, ◌∷◌, [], true, length, OnOk, OnErr, slice_set, slice_index_or};
+ghost use Rattle.std.specs.Prelude.{◌≡◌, ◌<◌, ◌≤◌, ◌+◌, ◌-◌, ◌^◌, ◌++◌, ◌∷◌, [], true, length, OnOk, OnErr, slice_get, slice_set, slice_index_or};
 ghost use Rattle.doc_table.specs.Growth as g;
 ghost use Rattle.doc_table.specs.Spine.{is_opening};
 
@@ -109,4 +109,11 @@ pub(crate) fn take_place(places: &mut Vec<u32>) -> u32
         Some(place) => place,
         None => 0,
     }
+}
+
+/// The place of the innermost open row.
+pub(crate) fn last_place(places: &Vec<u32>) -> Option<u32>
+    ensures { result ≡ slice_get places.now.items (length places.now.items - 1) }
+{
+    places.last().copied()
 }

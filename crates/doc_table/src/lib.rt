@@ -3,14 +3,17 @@
 
 mod builder;
 mod entry;
+mod fragment;
 mod growth;
 mod laws;
 mod ledger;
 mod list;
+mod look;
 mod none;
 mod rows;
 
 pub use builder::FragmentBuilder;
+pub use fragment::Fragment;
 pub use laws::{bridge, children_stand, references_in_order};
 pub use ledger::{Ledger, Note, Reads};
 pub use list::NoteList;
