@@ -5,7 +5,9 @@
 mod axis;
 mod code;
 mod item;
+mod pool;
 
 pub use axis::{Axis, NodeTest};
 pub use code::Code;
 pub use item::{Atom, FragKey, Item, NodeRef, TextId, Want};
+pub use pool::Pool;
