@@ -9,3 +9,4 @@ pub mod SpineRows
 pub mod Soundness
 pub mod Steps
 pub mod Looks
+pub mod Finds
