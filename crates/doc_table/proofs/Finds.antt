@@ -1,13 +1,16 @@
 -- The document of a name, and built trees by key.
-use Rattle.std.proofs.Common.{◌≡◌, ◌<◌, ◌≤◌, ◌+◌, ℕ, zero, suc, Bool, true, false, List, [], ◌∷◌, ◌++◌, length, Option, Some, None, Result, Ok, Err, OnOk, refl, arith, ap, sym, ◌∙◌, subst, ◌≢◌}
+use Rattle.std.proofs.Common.{◌≡◌, ◌<◌, ◌≤◌, ◌+◌, ℕ, zero, suc, Bool, true, false, cond, List, [], ◌∷◌, ◌++◌, length, Option, Some, None, Result, Ok, Err, OnOk, refl, arith, ap, sym, ◌∙◌, subst, ◌≢◌}
 use Rattle.std.proofs.Common.{inl, inr}
-use Rattle.std.proofs.lemmas.Bool.{false≢true, true≢false, cases_lt}
+use Rattle.std.proofs.lemmas.Bool.{false≢true, true≢false, cases_lt, eq-eqb, eqb-true, and_parts}
 use Rattle.std.proofs.lemmas.Option.{slice_get-get_or, get_or_from_slice_get}
-use Rattle.std.specs.Prelude.{slice_get, slice_index_or}
+use Rattle.std.specs.Prelude.{slice_get, slice_index_or, nat_eq}
 use Rattle.std.specs.Result.{is_err}
 use Rattle.xq_base.specs.declared.item.TextId.{TextId}
 use Rattle.doc_table.specs.Tree.{Tree, text_in}
-use Rattle.doc_table.specs.Stores.{AreGiven, FindsDoc}
+use Rattle.xq_base.specs.declared.item.FragKey.{FragKey}
+use Rattle.xq_base.specs.declared.item.FragKey.TheVariants as f
+use Rattle.doc_table.specs.declared.made.Made.{Made}
+use Rattle.doc_table.specs.Stores.{AreGiven, FindsDoc, Holdings, with_doc, with_built, tree_at, tree_of_doc, built_at, is_made}
 
 abbrev pub Docs : Type 0
 Docs = List (TextId × Tree TextId)
@@ -52,3 +55,64 @@ searched-all texts docs name i rank s h n d g = s.none n d (omega (arith, h, ins
     inside [] n d g = absurd (cc)
     inside (x ∷ docs) zero d g = omega arith
     inside (x ∷ docs) (suc n) d g = omega (arith, inside docs n d g)
+
+-- ---- what an added fragment changes
+
+doc-last : (docs : Docs) (d : TextId × Tree TextId) → slice_get (docs ++ d ∷ []) (length docs) ≡ Some d
+doc-last [] d = refl
+doc-last (x ∷ docs) d = doc-last docs d
+
+doc-before : (docs : Docs) (d : TextId × Tree TextId) (n : ℕ) → n ≢ length docs → slice_get (docs ++ d ∷ []) n ≡ slice_get docs n
+doc-before [] d zero h = absurd (h refl)
+doc-before [] d (suc n) h = refl
+doc-before (x ∷ docs) d zero h = refl
+doc-before (x ∷ docs) d (suc n) h = doc-before docs d n (λ e. h (ap suc e))
+
+-- a document that was added stands under the next rank, and every other key is as before
+pub doc-added : (h : Holdings) (name : TextId) (t : Tree TextId) → tree_at (with_doc name t h) (f.Doc (length h.docs)) ≡ Some t
+doc-added h name t = ap tree_of_doc (doc-last h.docs (name, t))
+
+pub doc-others : (h : Holdings) (name : TextId) (t : Tree TextId) (key : FragKey) → key ≢ f.Doc (length h.docs) → tree_at (with_doc name t h) key ≡ tree_at h key
+doc-others h name t (f.Doc n) other = ap tree_of_doc (doc-before h.docs (name, t) n (λ e. other (ap f.Doc e)))
+doc-others h name t (f.Built site iter) other = refl
+
+made-self : (site iter : ℕ) → is_made site iter (record { site = site; iter = iter }) ≡ true
+made-self site iter = rw (eq-eqb site site refl, eq-eqb iter iter refl) refl
+
+made-same : (site iter : ℕ) (m : Made) → is_made site iter m ≡ true → m ≡ record { site = site; iter = iter }
+made-same site iter m h =
+    let p = and_parts (nat_eq site m.site) (nat_eq iter m.iter) h in
+    let a : m.site ≡ site = sym (eqb-true site m.site p.0) in
+    let b : m.iter ≡ iter = sym (eqb-true iter m.iter p.1) in
+    ap (λ s. record { site = s; iter = m.iter }) a ∙ ap (λ i. record { site = site; iter = i }) b
+
+-- where no entry is found, the first is none and the others have none
+none-rest : (site iter : ℕ) (b : Made × Tree TextId) (bs : List (Made × Tree TextId)) → built_at site iter (b ∷ bs) ≡ None → (is_made site iter b.0 ≡ false) × (built_at site iter bs ≡ None)
+none-rest site iter b bs n = by (is_made site iter b.0) refl
+  where
+    by : (here : Bool) → is_made site iter b.0 ≡ here → (is_made site iter b.0 ≡ false) × (built_at site iter bs ≡ None)
+    by true e = let k : Some b.1 ≡ None = rw e at n in absurd (cc)
+    by false e = (e, rw e at n)
+
+last-built : (site iter : ℕ) (t : Tree TextId) (bs : List (Made × Tree TextId)) → built_at site iter bs ≡ None → built_at site iter (bs ++ (record { site = site; iter = iter }, t) ∷ []) ≡ Some t
+last-built site iter t [] n = rw (made-self site iter) refl
+last-built site iter t (b ∷ bs) n =
+    let r = none-rest site iter b bs n in
+    rw r.0 (last-built site iter t bs r.1)
+
+-- a tree that was built under a new key stands under it, and every other key is as before
+pub built-added : (h : Holdings) (site iter : ℕ) (t : Tree TextId) → built_at site iter h.built ≡ None → tree_at (with_built site iter t h) (f.Built site iter) ≡ Some t
+built-added h site iter t new = last-built site iter t h.built new
+
+other-built : (s r site iter : ℕ) (t : Tree TextId) (bs : List (Made × Tree TextId)) → is_made s r (record { site = site; iter = iter }) ≡ false → built_at s r (bs ++ (record { site = site; iter = iter }, t) ∷ []) ≡ built_at s r bs
+other-built s r site iter t [] e = rw e refl
+other-built s r site iter t (b ∷ bs) e = ap (λ z. cond (is_made s r b.0) (Some b.1) z) (other-built s r site iter t bs e)
+
+pub built-others : (h : Holdings) (site iter : ℕ) (t : Tree TextId) (key : FragKey) → key ≢ f.Built site iter → tree_at (with_built site iter t h) key ≡ tree_at h key
+built-others h site iter t (f.Doc n) other = refl
+built-others h site iter t (f.Built s r) other =
+    other-built s r site iter t h.built (by (is_made s r (record { site = site; iter = iter })) refl)
+  where
+    by : (b : Bool) → is_made s r (record { site = site; iter = iter }) ≡ b → is_made s r (record { site = site; iter = iter }) ≡ false
+    by true e = absurd (other (ap (λ (m : Made). f.Built m.site m.iter) (sym (made-same s r (record { site = site; iter = iter }) e))))
+    by false e = e

@@ -10,3 +10,4 @@ pub mod Soundness
 pub mod Steps
 pub mod Looks
 pub mod Finds
+pub mod SpineLaws
