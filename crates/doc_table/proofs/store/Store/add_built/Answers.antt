@@ -1,4 +1,4 @@
-use Rattle.std.proofs.Common.{◌≡◌, ◌∙◌, ap, sym, None}
+use Rattle.std.proofs.Common.{◌≡◌, ◌∙◌, ap, None}
 use Rattle.doc_table.specs.Stores.{Holdings, built_at, with_built}
 use Rattle.doc_table.proofs.Finds.{ok_fact}
 use Rattle.indexmap.proofs.CallerLemmas.{insert_entry-new}
