@@ -1,0 +1,4 @@
+pub mod Lists
+pub mod Closes
+pub mod Walks
+pub mod Trees

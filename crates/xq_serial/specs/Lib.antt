@@ -1,0 +1,3 @@
+pub mod Escapes
+pub mod Ser
+pub mod Walk
