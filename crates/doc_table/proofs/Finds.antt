@@ -1,16 +1,22 @@
 -- The document of a name, and built trees by key.
-use Rattle.std.proofs.Common.{◌≡◌, ◌<◌, ◌≤◌, ◌+◌, ℕ, zero, suc, Bool, true, false, cond, List, [], ◌∷◌, ◌++◌, length, Some, None, Result, Ok, Err, OnOk, refl, arith, ap, sym, ◌∙◌, subst, ◌≢◌}
+use Rattle.std.proofs.Common.{◌≡◌, ◌<◌, ◌≤◌, ◌+◌, ℕ, zero, suc, Bool, true, false, cond, List, [], ◌∷◌, ◌++◌, length, Some, None, Result, Ok, Err, OnOk, refl, arith, ap, sym, ◌∙◌, subst, ◌≢◌, length-append}
 use Rattle.std.proofs.Common.{inl, inr}
-use Rattle.std.proofs.lemmas.Bool.{false≢true, cases_lt, eq-eqb, eqb-true, and_parts}
+use Rattle.std.proofs.lemmas.Bool.{false≢true, cases_lt, eq-eqb, eqb-true, and_parts, and_from, lt-ltb}
 use Rattle.std.proofs.lemmas.Option.{slice_get-get_or, get_or_from_slice_get}
-use Rattle.std.specs.Prelude.{slice_get, slice_index_or, nat_eq}
+use Rattle.std.specs.Prelude.{slice_get, slice_index_or, nat_eq, nat_lt}
+use Rattle.std.specs.List.{list_all}
 use Rattle.std.specs.Result.{is_err}
 use Rattle.xq_base.specs.declared.item.TextId.{TextId}
 use Rattle.doc_table.specs.Tree.{Tree, text_in}
 use Rattle.xq_base.specs.declared.item.FragKey.{FragKey}
 use Rattle.xq_base.specs.declared.item.FragKey.TheVariants as f
 use Rattle.doc_table.specs.declared.made.Made.{Made}
-use Rattle.doc_table.specs.Stores.{AreGiven, FindsDoc, Holdings, with_doc, with_built, tree_at, tree_of_doc, built_at, is_made}
+use Rattle.doc_table.specs.Stores.{AreGiven, FindsDoc, Holdings, with_doc, with_built, tree_at, tree_of_doc, built_at, is_made, is_kept, docs_kept, built_kept, StoreKeeps, AllKept}
+use Rattle.doc_table.specs.Enc.{enc}
+use Rattle.doc_table.specs.Axes.{id_eq}
+use Rattle.doc_table.specs.Spine.{is_empty_id}
+use Rattle.doc_table.specs.Sound.{is_sound}
+use Rattle.doc_table.specs.Kept.{most}
 
 abbrev pub Docs : Type 0
 Docs = List (TextId × Tree TextId)
@@ -116,3 +122,43 @@ built-others h site iter t (f.Built s r) other =
     by : (b : Bool) → is_made s r (record { site = site; iter = iter }) ≡ b → is_made s r (record { site = site; iter = iter }) ≡ false
     by true e = absurd (other (ap (λ (m : Made). f.Built m.site m.iter) (sym (made-same s r (record { site = site; iter = iter }) e))))
     by false e = e
+
+-- ---- what a store keeps
+
+list_all-push : {A : Type 0} (p : A → Bool) (xs : List A) (x : A) → list_all p xs ≡ true → p x ≡ true → list_all p (xs ++ x ∷ []) ≡ true
+list_all-push p [] x a h = and_from (p x) true h refl
+list_all-push p (y ∷ xs) x a h = let q = and_parts (p y) (list_all p xs) a in and_from (p y) (list_all p (xs ++ x ∷ [])) q.0 (list_all-push p xs x q.1 h)
+
+pub kept-from : (t : Tree TextId) → is_sound id_eq is_empty_id t ≡ true → length (enc t) < most → is_kept t ≡ true
+kept-from t s h = and_from (is_sound id_eq is_empty_id t) (nat_lt (length (enc t)) most) s (lt-ltb (length (enc t)) most h)
+
+pub doc-keeps : (docs : Docs) (built : List (Made × Tree TextId)) (d : TextId × Tree TextId) → StoreKeeps docs built → length docs < most → is_kept d.1 ≡ true → StoreKeeps (docs ++ d ∷ []) built
+doc-keeps docs built d k room h = record { few = omega (arith, length-append docs (d ∷ []), room); docs_are = list_all-push (λ x. is_kept x.1) docs d k.docs_are h; built_are = k.built_are }
+
+pub built-keeps : (docs : Docs) (built : List (Made × Tree TextId)) (b : Made × Tree TextId) → StoreKeeps docs built → is_kept b.1 ≡ true → StoreKeeps docs (built ++ b ∷ [])
+built-keeps docs built b k h = record { few = k.few; docs_are = k.docs_are; built_are = list_all-push (λ x. is_kept x.1) built b k.built_are h }
+
+doc-kept : (docs : Docs) (n : ℕ) (t : Tree TextId) → docs_kept docs ≡ true → tree_of_doc (slice_get docs n) ≡ Some t → is_kept t ≡ true
+doc-kept [] n t a h = absurd (none-some h)
+  where
+    none-some : None ≡ Some t → ⊥
+    none-some k = cc
+doc-kept (d ∷ docs) zero t a h = let e : d.1 ≡ t = cc in ap is_kept (sym e) ∙ (and_parts (is_kept d.1) (docs_kept docs) a).0
+doc-kept (d ∷ docs) (suc n) t a h = doc-kept docs n t (and_parts (is_kept d.1) (docs_kept docs) a).1 h
+
+built-kept : (site iter : ℕ) (bs : List (Made × Tree TextId)) (t : Tree TextId) → built_kept bs ≡ true → built_at site iter bs ≡ Some t → is_kept t ≡ true
+built-kept site iter [] t a h = absurd (none-some h)
+  where
+    none-some : None ≡ Some t → ⊥
+    none-some k = cc
+built-kept site iter (b ∷ bs) t a h =
+    let p = and_parts (is_kept b.1) (built_kept bs) a in
+    by (is_made site iter b.0) refl p.0 (λ k. built-kept site iter bs t p.1 k)
+  where
+    by : (here : Bool) → is_made site iter b.0 ≡ here → is_kept b.1 ≡ true → (built_at site iter bs ≡ Some t → is_kept t ≡ true) → is_kept t ≡ true
+    by true e k g = let d : Some b.1 ≡ Some t = rw e at h in let s : b.1 ≡ t = cc in ap is_kept (sym s) ∙ k
+    by false e k g = g (rw e at h)
+
+pub all-kept : (h : Holdings) → StoreKeeps h.docs h.built → AllKept h
+all-kept h k (f.Doc n) t e = doc-kept h.docs n t k.docs_are e
+all-kept h k (f.Built site iter) t e = built-kept site iter h.built t k.built_are e

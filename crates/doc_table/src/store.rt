@@ -1,6 +1,6 @@
 ghost use Rattle.std.specs.Prelude.{◌≡◌, ◌<◌, ◌-◌, ◌^◌, ◌++◌, ◌∷◌, [], false, None, length, slice_get, OnOk, OnErr, IfOk};
 ghost use Rattle.std.specs.Option.{option_copied};
-ghost use Rattle.doc_table.specs.Stores.{tree_of_doc, empty_holdings, with_doc, with_built, has_doc, built_at, tree_at, AreGiven, FindsDoc};
+ghost use Rattle.doc_table.specs.Stores.{AllKept, tree_of_doc, empty_holdings, with_doc, with_built, has_doc, built_at, tree_at, AreGiven, FindsDoc};
 
 use crate::fragment::Fragment;
 use crate::made::Made;
@@ -23,11 +23,11 @@ impl Model for Store {
 
     ghost coded = { coded_holdings };
 
-    ghost use Rattle.std.specs.Prelude.{◌<◌, ◌^◌, length};
+    ghost use Rattle.doc_table.specs.Stores.{StoreKeeps};
 
     ghost view = { λ s. record { docs = s.docs.items; built = s.built.entries } };
 
-    ghost invariant = { λ s. length s.docs.items < 2 ^ 32 };
+    ghost invariant = { λ s. StoreKeeps s.docs.items s.built.entries };
 }
 
 impl Store {
@@ -49,6 +49,7 @@ impl Store {
         ensures ok { OnOk result (self.new ≡ with_doc name frag self.old) }
         ensures err { OnErr result (self.new ≡ self.old) }
     {
+        frag.validity();
         let rank = self.docs.len() as u32;
         if self.docs.push((name, frag)).is_err() {
             return Err(Want);
@@ -62,6 +63,7 @@ impl Store {
         ensures ok { OnOk result (self.new ≡ with_built site iter frag self.old) }
         ensures err { OnErr result (self.new ≡ self.old) }
     {
+        frag.validity();
         if self.built.insert(Made { site, iter }, frag).is_err() {
             return Err(Want);
         }
@@ -76,6 +78,13 @@ impl Store {
             FragKey::Doc(rank) => doc_at(&self.docs, rank),
             FragKey::Built { site, iter } => self.built.get(&Made { site, iter }),
         }
+    }
+
+    /// What each fragment of a store keeps, as `Fragment::validity` says it.
+    pub fn validity(&self)
+        ensures { AllKept self.now }
+    {
+        let _ = &self.docs;
     }
 
     /// The rank of the document of a name; none exactly where no document has it.
