@@ -1,5 +1,5 @@
 -- The rows of a subtree, one after the other.
-use Rattle.std.proofs.Common.{◌≡◌, ◌<◌, ◌≤◌, ◌+◌, ◌-◌, ℕ, zero, suc, Bool, true, false, ◌&&◌, List, [], ◌∷◌, ◌++◌, length, take, drop, Option, Some, None, if◌then◌else◌, refl, arith, ap, sym, ◌∙◌, subst, append_assoc}
+use Rattle.std.proofs.Common.{◌≡◌, ◌<◌, ◌≤◌, ◌+◌, ◌-◌, ℕ, zero, suc, Bool, true, false, ◌&&◌, List, [], ◌∷◌, ◌++◌, length, take, drop, Option, Some, None, Result, Ok, Err, OnOk, if◌then◌else◌, refl, arith, ap, sym, ◌∙◌, subst, append_assoc}
 use Rattle.std.proofs.lemmas.List.{append-nil}
 use Rattle.std.proofs.lemmas.Bool.{and_parts, and_from}
 use Rattle.std.specs.Prelude.{slice_range, slice_index_or, nat_eq, nat_lt}
@@ -67,3 +67,7 @@ walking-step texts base before lines all v e out names out' names' w h k g o n =
       ∙ ap (λ z. out ++ rows_text texts base names z) (sym (range-here lines v e h k))
       ∙ w.written
   }
+
+pub where_ok : {A E : Type 0} {P Q : Type 0} (r : Result A E) → OnOk r P → (P → Q) → OnOk r Q
+where_ok (Ok x) h f = f h
+where_ok (Err e) h f = tt

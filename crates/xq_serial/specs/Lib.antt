@@ -1,3 +1,4 @@
 pub mod Escapes
 pub mod Ser
 pub mod Walk
+pub mod Given

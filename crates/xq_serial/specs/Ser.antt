@@ -1,7 +1,8 @@
 -- The bytes of an answer (XSLT 2.0 and XQuery 1.0 Serialization, sections 2 and 5, method xml, without
 -- a declaration and without indentation).
-use Rattle.std.specs.Prelude.{ℕ, ◌≡◌, Bool, true, false, ◌&&◌, if◌then◌else◌, List, [], ◌∷◌, ◌++◌, codes, Option, Some, None, flat_map, position}
+use Rattle.std.specs.Prelude.{ℕ, ◌≡◌, Bool, true, false, ◌&&◌, if◌then◌else◌, List, [], ◌∷◌, ◌++◌, codes, Option, Some, None, flat_map}
 use Rattle.std.specs.Fmt.{signed_decimal}
+use Rattle.std.specs.List.{position_from}
 use Rattle.doc_table.specs.Tree.{NodeKind, AttributeNode, Label, OfDocument, OfElement, OfAttribute, OfText, OfComment, OfInstruction, Tree, Forest, Branch, no_more, one_more, kind_of}
 use Rattle.doc_table.specs.Paths.{Path, subtree, label_at}
 use Rattle.doc_table.specs.Axes.{kind_eq}
@@ -90,4 +91,4 @@ is_attribute (NodeItem n) = is_attribute_label (label_at n.tree n.path)
 
 -- the place of the first attribute among the items, counted from 0
 abbrev pub attribute_place : List (Item Text) → Option ℕ
-attribute_place items = position is_attribute items
+attribute_place items = position_from is_attribute 0 items
