@@ -12,6 +12,7 @@ use Rattle.xq_base.specs.declared.item.FragKey.{FragKey}
 use Rattle.xq_base.specs.declared.item.FragKey.TheVariants as f
 use Rattle.doc_table.specs.declared.made.Made.{Made}
 use Rattle.doc_table.specs.Stores.{AreGiven, FindsDoc, Holdings, with_doc, with_built, tree_at, tree_of_doc, built_at, is_made, is_kept, docs_kept, built_kept, StoreKeeps, AllKept}
+use Rattle.doc_table.specs.Given.{every_tree}
 use Rattle.doc_table.specs.Enc.{enc}
 use Rattle.doc_table.specs.Axes.{id_eq}
 use Rattle.doc_table.specs.Spine.{is_empty_id}
@@ -138,27 +139,42 @@ doc-keeps docs built d k room h = record { few = omega (arith, length-append doc
 pub built-keeps : (docs : Docs) (built : List (Made × Tree TextId)) (b : Made × Tree TextId) → StoreKeeps docs built → is_kept b.1 ≡ true → StoreKeeps docs (built ++ b ∷ [])
 built-keeps docs built b k h = record { few = k.few; docs_are = k.docs_are; built_are = list_all-push (λ x. is_kept x.1) built b k.built_are h }
 
-doc-kept : (docs : Docs) (n : ℕ) (t : Tree TextId) → docs_kept docs ≡ true → tree_of_doc (slice_get docs n) ≡ Some t → is_kept t ≡ true
-doc-kept [] n t a h = absurd (none-some h)
+doc-passes : (q : Tree TextId → Bool) (docs : Docs) (n : ℕ) (t : Tree TextId) → list_all (λ d. q d.1) docs ≡ true → tree_of_doc (slice_get docs n) ≡ Some t → q t ≡ true
+doc-passes q [] n t a h = absurd (none-some h)
   where
     none-some : None ≡ Some t → ⊥
     none-some k = cc
-doc-kept (d ∷ docs) zero t a h = let e : d.1 ≡ t = cc in ap is_kept (sym e) ∙ (and_parts (is_kept d.1) (docs_kept docs) a).0
-doc-kept (d ∷ docs) (suc n) t a h = doc-kept docs n t (and_parts (is_kept d.1) (docs_kept docs) a).1 h
+doc-passes q (d ∷ docs) zero t a h = let e : d.1 ≡ t = cc in ap q (sym e) ∙ (and_parts (q d.1) (list_all (λ x. q x.1) docs) a).0
+doc-passes q (d ∷ docs) (suc n) t a h = doc-passes q docs n t (and_parts (q d.1) (list_all (λ x. q x.1) docs) a).1 h
 
-built-kept : (site iter : ℕ) (bs : List (Made × Tree TextId)) (t : Tree TextId) → built_kept bs ≡ true → built_at site iter bs ≡ Some t → is_kept t ≡ true
-built-kept site iter [] t a h = absurd (none-some h)
+built-passes : (q : Tree TextId → Bool) (site iter : ℕ) (bs : List (Made × Tree TextId)) (t : Tree TextId) → list_all (λ b. q b.1) bs ≡ true → built_at site iter bs ≡ Some t → q t ≡ true
+built-passes q site iter [] t a h = absurd (none-some h)
   where
     none-some : None ≡ Some t → ⊥
     none-some k = cc
-built-kept site iter (b ∷ bs) t a h =
-    let p = and_parts (is_kept b.1) (built_kept bs) a in
-    by (is_made site iter b.0) refl p.0 (λ k. built-kept site iter bs t p.1 k)
+built-passes q site iter (b ∷ bs) t a h =
+  let p = and_parts (q b.1) (list_all (λ x. q x.1) bs) a in
+  by (is_made site iter b.0) refl p.0 (λ k. built-passes q site iter bs t p.1 k)
   where
-    by : (here : Bool) → is_made site iter b.0 ≡ here → is_kept b.1 ≡ true → (built_at site iter bs ≡ Some t → is_kept t ≡ true) → is_kept t ≡ true
-    by true e k g = let d : Some b.1 ≡ Some t = rw e at h in let s : b.1 ≡ t = cc in ap is_kept (sym s) ∙ k
+    by : (here : Bool) → is_made site iter b.0 ≡ here → q b.1 ≡ true → (built_at site iter bs ≡ Some t → q t ≡ true) → q t ≡ true
+    by true e k g = let d : Some b.1 ≡ Some t = rw e at h in let s : b.1 ≡ t = cc in ap q (sym s) ∙ k
     by false e k g = g (rw e at h)
 
+-- what all trees of a store pass, the tree under a key passes
+pub under-key : (q : Tree TextId → Bool) (h : Holdings) (key : FragKey) (t : Tree TextId) → list_all (λ d. q d.1) h.docs ≡ true → list_all (λ b. q b.1) h.built ≡ true → tree_at h key ≡ Some t → q t ≡ true
+under-key q h (f.Doc n) t d b e = doc-passes q h.docs n t d e
+under-key q h (f.Built site iter) t d b e = built-passes q site iter h.built t b e
+
 pub all-kept : (h : Holdings) → StoreKeeps h.docs h.built → AllKept h
-all-kept h k (f.Doc n) t e = doc-kept h.docs n t k.docs_are e
-all-kept h k (f.Built site iter) t e = built-kept site iter h.built t k.built_are e
+all-kept h k key t e = under-key is_kept h key t k.docs_are k.built_are e
+
+-- every tree still passes where the added one does
+pub every_tree-doc : (q : Tree TextId → Bool) (h : Holdings) (name : TextId) (t : Tree TextId) → every_tree q h ≡ true → q t ≡ true → every_tree q (with_doc name t h) ≡ true
+every_tree-doc q h name t e p =
+  let r = and_parts (list_all (λ d. q d.1) h.docs) (list_all (λ b. q b.1) h.built) e in
+  and_from (list_all (λ d. q d.1) (h.docs ++ (name, t) ∷ [])) (list_all (λ b. q b.1) h.built) (list_all-push (λ d. q d.1) h.docs (name, t) r.0 p) r.1
+
+pub every_tree-built : (q : Tree TextId → Bool) (h : Holdings) (site iter : ℕ) (t : Tree TextId) → every_tree q h ≡ true → q t ≡ true → every_tree q (with_built site iter t h) ≡ true
+every_tree-built q h site iter t e p =
+  let r = and_parts (list_all (λ d. q d.1) h.docs) (list_all (λ b. q b.1) h.built) e in
+  and_from (list_all (λ d. q d.1) h.docs) (list_all (λ b. q b.1) (h.built ++ (record { site = site; iter = iter }, t) ∷ [])) r.0 (list_all-push (λ b. q b.1) h.built (record { site = site; iter = iter }, t) r.1 p)

@@ -5,7 +5,8 @@ use Rattle.std.proofs.lemmas.Bool.{and_parts, lt-ltb, le-ltb}
 use Rattle.std.specs.Prelude.{nat_lt}
 use Rattle.std.specs.List.{list_all}
 use Rattle.xq_base.specs.declared.item.TextId.{TextId}
-use Rattle.xq_serial.specs.Walk.{Texts, end_tag, closes, cut, option_given, names_given, ClosesOne}
+use Rattle.xq_serial.specs.Walk.{Texts, end_tag, closes, cut, names_given, ClosesOne}
+use Rattle.doc_table.specs.Given.{option_given}
 
 abbrev pub Names : Type 0
 Names = List (Option TextId)

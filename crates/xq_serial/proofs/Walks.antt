@@ -8,7 +8,8 @@ use Rattle.xq_base.specs.declared.item.TextId.{TextId}
 use Rattle.doc_table.specs.Tree.{Tree}
 use Rattle.doc_table.specs.Enc.{Line, enc, line_in, no_line}
 use Rattle.doc_table.proofs.Marks.{bridge}
-use Rattle.xq_serial.specs.Walk.{Texts, closes, cut, start, pushed, rows_text, option_given, names_given, line_given, tree_given}
+use Rattle.xq_serial.specs.Walk.{Texts, closes, cut, start, pushed, rows_text, names_given}
+use Rattle.doc_table.specs.Given.{option_given, line_given, tree_given}
 use Rattle.xq_serial.proofs.Lists.{drop-here, drop-all, all-at}
 use Rattle.xq_serial.proofs.Closes.{Names}
 

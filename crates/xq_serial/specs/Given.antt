@@ -16,7 +16,7 @@ use Rattle.doc_table.specs.Items.{Item, item_of}
 use Rattle.doc_table.specs.Kept.{root_or}
 use Rattle.doc_table.specs.Stores.{Holdings, tree_at}
 use Rattle.xq_serial.specs.Ser.{attribute_place, ser}
-use Rattle.xq_serial.specs.Walk.{is_given, tree_given}
+use Rattle.doc_table.specs.Given.{is_given, tree_given}
 
 -- the trees under the keys of a store
 abbrev pub trees_of : Holdings → FragKey → Tree TextId
@@ -42,10 +42,6 @@ ItemGiven texts h (i.Node r) = IsNodeOf h r (tree_at h r.frag)
 abbrev pub ItemsGiven : List (List ℕ) → Holdings → List Held → Type 0
 ItemsGiven texts h [] = Unit {0}
 ItemsGiven texts h (x ∷ xs) = ItemGiven texts h x × ItemsGiven texts h xs
-
--- the pool gave the texts of the trees
-abbrev pub TreesGiven : List (List ℕ) → Holdings → Type 0
-TreesGiven texts h = (key : FragKey) (t : Tree TextId) → tree_at h key ≡ Some t → tree_given (length texts) t ≡ true
 
 -- a reference to an attribute
 abbrev pub is_attribute_ref : Held → Bool

@@ -6,6 +6,7 @@ use Rattle.doc_table.specs.declared.rows.Kind.{Kind}
 use Rattle.doc_table.specs.declared.rows.Kind.TheVariants as k
 use Rattle.doc_table.specs.Tree.{Tree, text_in, pair_with}
 use Rattle.doc_table.specs.Enc.{Line, enc}
+use Rattle.doc_table.specs.Given.{option_given}
 use Rattle.xq_serial.specs.Escapes.{text_escaped}
 use Rattle.xq_serial.specs.Ser.{ser_attributes, ser_instruction}
 
@@ -54,23 +55,6 @@ pushed line names = if nat_eq line.size 0 then names else line.name ∷ names
 abbrev pub rows_text : Texts → ℕ → List (Option TextId) → List (Line TextId) → List ℕ
 rows_text texts base names [] = closes texts 0 names
 rows_text texts base names (line ∷ lines) = closes texts (line.level - base) names ++ (start texts line ++ rows_text texts base (pushed line (cut (line.level - base) names)) lines)
-
--- a pool of so many texts gave these numbers
-abbrev pub is_given : ℕ → TextId → Bool
-is_given n id = nat_lt id.0 n
-
-abbrev pub option_given : ℕ → Option TextId → Bool
-option_given n None = true
-option_given n (Some id) = is_given n id
-
-abbrev pub pair_given : ℕ → TextId × TextId → Bool
-pair_given n p = is_given n p.0 && is_given n p.1
-
-abbrev pub line_given : ℕ → Line TextId → Bool
-line_given n line = option_given n line.name && option_given n line.value && list_all (pair_given n) line.attributes
-
-abbrev pub tree_given : ℕ → Tree TextId → Bool
-tree_given n t = list_all (line_given n) (enc t)
 
 abbrev pub names_given : ℕ → List (Option TextId) → Bool
 names_given n names = list_all (option_given n) names

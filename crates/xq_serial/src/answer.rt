@@ -3,8 +3,9 @@ ghost use Rattle.std.specs.List.{position_from};
 ghost use Rattle.xq_base.specs.declared.item.Item.{Item};
 ghost use Rattle.doc_table.specs.Items.{item_of};
 ghost use Rattle.doc_table.specs.Stores.{AllKept};
+ghost use Rattle.doc_table.specs.Given.{trees_given};
 ghost use Rattle.xq_serial.specs.Ser.{ser, ser_item, ser_after, ser_bool};
-ghost use Rattle.xq_serial.specs.Given.{trees_of, meanings, ItemGiven, ItemsGiven, TreesGiven, is_attribute_ref, is_atom_ref, Answers};
+ghost use Rattle.xq_serial.specs.Given.{trees_of, meanings, ItemGiven, ItemsGiven, is_attribute_ref, is_atom_ref, Answers};
 
 use crate::fault::SerialFault;
 use crate::rows::push_rows;
@@ -21,7 +22,7 @@ use xq_base::{Item, NodeRef, Pool};
 /// `NoMemory`.
 pub fn serialise(alloc: Global, items: &[Item], store: &Store, pool: &Pool) -> Result<Vec<u8>, SerialFault>
     requires items { ItemsGiven pool.now store.now items.now }
-    requires trees { TreesGiven pool.now store.now }
+    requires trees { trees_given (length pool.now) store.now ≡ true }
     ensures { Answers (meanings pool.now store.now items.now) result }
 {
     store.validity();
@@ -59,7 +60,7 @@ fn is_atom(item: Item) -> bool
 /// The bytes of items without an attribute among them.
 fn written(alloc: Global, items: &[Item], store: &Store, pool: &Pool) -> Result<Vec<u8>, SerialFault>
     requires items { ItemsGiven pool.now store.now items.now }
-    requires trees { TreesGiven pool.now store.now }
+    requires trees { trees_given (length pool.now) store.now ≡ true }
     requires kept { AllKept store.now }
     requires none { position_from is_attribute_ref 0 items.now ≡ None }
     ensures { Answers (meanings pool.now store.now items.now) result }
@@ -73,7 +74,7 @@ fn written(alloc: Global, items: &[Item], store: &Store, pool: &Pool) -> Result<
 
 fn push_items(alloc: Global, out: &mut String, items: &[Item], store: &Store, pool: &Pool) -> Result<(), AllocError>
     requires items { ItemsGiven pool.now store.now items.now }
-    requires trees { TreesGiven pool.now store.now }
+    requires trees { trees_given (length pool.now) store.now ≡ true }
     requires kept { AllKept store.now }
     requires none { position_from is_attribute_ref 0 items.now ≡ None }
     ensures { OnOk result (string_bytes out.new ≡ string_bytes out.old ++ ser (meanings pool.now store.now items.now)) }
@@ -99,7 +100,7 @@ fn push_blank(out: &mut String, wanted: bool) -> Result<(), AllocError>
 /// Writes one item.
 fn push_item(alloc: Global, out: &mut String, item: Item, store: &Store, pool: &Pool) -> Result<(), AllocError>
     requires item { ItemGiven pool.now store.now item }
-    requires trees { TreesGiven pool.now store.now }
+    requires trees { trees_given (length pool.now) store.now ≡ true }
     requires kept { AllKept store.now }
     requires node { is_attribute_ref item ≡ false }
     ensures { OnOk result (string_bytes out.new ≡ string_bytes out.old ++ ser_item (item_of pool.now (trees_of store.now) item)) }
@@ -117,7 +118,7 @@ fn push_item(alloc: Global, out: &mut String, item: Item, store: &Store, pool: &
 /// Writes a node that is no attribute.
 fn push_node(alloc: Global, out: &mut String, node: NodeRef, store: &Store, pool: &Pool) -> Result<(), AllocError>
     requires item { ItemGiven pool.now store.now (Item.Node node) }
-    requires trees { TreesGiven pool.now store.now }
+    requires trees { trees_given (length pool.now) store.now ≡ true }
     requires kept { AllKept store.now }
     requires node { node.attr ≡ 0 }
     ensures { OnOk result (string_bytes out.new ≡ string_bytes out.old ++ ser_item (item_of pool.now (trees_of store.now) (Item.Node node))) }

@@ -1,5 +1,6 @@
 ghost use Rattle.std.specs.Prelude.{◌≡◌, ◌<◌, ◌++◌, ◌∷◌, [], true, length, OnOk, MatchOption, string_bytes};
-ghost use Rattle.xq_serial.specs.Walk.{closes, cut, end_tag, names_given, option_given, ClosesOne};
+ghost use Rattle.xq_serial.specs.Walk.{closes, cut, end_tag, names_given, ClosesOne};
+ghost use Rattle.doc_table.specs.Given.{option_given};
 
 use crate::tags::push_end;
 use std::alloc::{AllocError, Global};

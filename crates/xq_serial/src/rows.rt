@@ -1,6 +1,7 @@
 ghost use Rattle.std.specs.Prelude.{◌≡◌, ◌<◌, ◌≤◌, ◌+◌, ◌-◌, ◌^◌, ◌++◌, ◌∷◌, [], true, length, nat_eq, slice_range, if◌then◌else◌, OnOk, string_bytes};
 ghost use Rattle.doc_table.specs.Enc.{enc, line_in, row_of};
-ghost use Rattle.xq_serial.specs.Walk.{start, start_of, pushed, cut, closes, rows_text, line_given, tree_given, names_given};
+ghost use Rattle.xq_serial.specs.Walk.{start, start_of, pushed, cut, closes, rows_text, names_given};
+ghost use Rattle.doc_table.specs.Given.{line_given, tree_given};
 
 
 use crate::names::{OpenNames, close_to};

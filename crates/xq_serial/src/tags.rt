@@ -4,7 +4,8 @@ ghost use Rattle.doc_table.specs.Tree.{text_in, pair_with};
 ghost use Rattle.xq_serial.specs.Escapes.{text_escaped, value_escaped};
 ghost use Rattle.xq_serial.specs.Ser.{part, ser_attribute, ser_attributes, ser_instruction};
 ghost use Rattle.doc_table.specs.declared.rows.Kind.{Kind};
-ghost use Rattle.xq_serial.specs.Walk.{start_of, end_tag, tag_end, is_given, option_given, pair_given};
+ghost use Rattle.xq_serial.specs.Walk.{start_of, end_tag, tag_end};
+ghost use Rattle.doc_table.specs.Given.{is_given, option_given, pair_given};
 
 use crate::escape::{push_text, push_value};
 use doc_table::Kind;
