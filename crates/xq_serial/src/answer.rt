@@ -20,7 +20,12 @@ use xq_base::{Item, NodeRef, Pool};
 ///
 /// Errors: `Attribute`, where an attribute stands among the items, with the place of the first one;
 /// `NoMemory`.
-pub fn serialise(alloc: Global, items: &[Item], store: &Store, pool: &Pool) -> Result<Vec<u8>, SerialFault>
+pub fn serialise(
+    alloc: Global,
+    items: &[Item],
+    store: &Store,
+    pool: &Pool,
+) -> Result<Vec<u8>, SerialFault>
     requires items { ItemsGiven pool.now store.now items.now }
     requires trees { trees_given (length pool.now) store.now ≡ true }
     ensures { Answers (meanings pool.now store.now items.now) result }
@@ -58,7 +63,12 @@ fn is_atom(item: Item) -> bool
 }
 
 /// The bytes of items without an attribute among them.
-fn written(alloc: Global, items: &[Item], store: &Store, pool: &Pool) -> Result<Vec<u8>, SerialFault>
+fn written(
+    alloc: Global,
+    items: &[Item],
+    store: &Store,
+    pool: &Pool,
+) -> Result<Vec<u8>, SerialFault>
     requires items { ItemsGiven pool.now store.now items.now }
     requires trees { trees_given (length pool.now) store.now ≡ true }
     requires kept { AllKept store.now }
@@ -72,7 +82,13 @@ fn written(alloc: Global, items: &[Item], store: &Store, pool: &Pool) -> Result<
     }
 }
 
-fn push_items(alloc: Global, out: &mut String, items: &[Item], store: &Store, pool: &Pool) -> Result<(), AllocError>
+fn push_items(
+    alloc: Global,
+    out: &mut String,
+    items: &[Item],
+    store: &Store,
+    pool: &Pool,
+) -> Result<(), AllocError>
     requires items { ItemsGiven pool.now store.now items.now }
     requires trees { trees_given (length pool.now) store.now ≡ true }
     requires kept { AllKept store.now }
@@ -98,7 +114,13 @@ fn push_blank(out: &mut String, wanted: bool) -> Result<(), AllocError>
 }
 
 /// Writes one item.
-fn push_item(alloc: Global, out: &mut String, item: Item, store: &Store, pool: &Pool) -> Result<(), AllocError>
+fn push_item(
+    alloc: Global,
+    out: &mut String,
+    item: Item,
+    store: &Store,
+    pool: &Pool,
+) -> Result<(), AllocError>
     requires item { ItemGiven pool.now store.now item }
     requires trees { trees_given (length pool.now) store.now ≡ true }
     requires kept { AllKept store.now }
@@ -116,7 +138,13 @@ fn push_item(alloc: Global, out: &mut String, item: Item, store: &Store, pool: &
 }
 
 /// Writes a node that is no attribute.
-fn push_node(alloc: Global, out: &mut String, node: NodeRef, store: &Store, pool: &Pool) -> Result<(), AllocError>
+fn push_node(
+    alloc: Global,
+    out: &mut String,
+    node: NodeRef,
+    store: &Store,
+    pool: &Pool,
+) -> Result<(), AllocError>
     requires item { ItemGiven pool.now store.now (Item.Node node) }
     requires trees { trees_given (length pool.now) store.now ≡ true }
     requires kept { AllKept store.now }

@@ -6,8 +6,9 @@ mod escape;
 mod fault;
 mod names;
 mod rows;
-
 mod tags;
+#[cfg(test)]
+mod tests;
 
-pub use fault::SerialFault;
 pub use answer::serialise;
+pub use fault::SerialFault;

@@ -26,7 +26,9 @@ impl OpenNames {
     pub(crate) fn new(alloc: Global) -> OpenNames
         ensures { result ≡ [] }
     {
-        OpenNames { names: Vec::new(alloc) }
+        OpenNames {
+            names: Vec::new(alloc),
+        }
     }
 
     pub(crate) fn len(&self) -> usize
@@ -50,7 +52,12 @@ impl OpenNames {
 }
 
 /// Writes the end tags of all open nodes beyond the first so many, the innermost first.
-pub(crate) fn close_to(out: &mut String, pool: &Pool, names: &mut OpenNames, depth: usize) -> Result<(), AllocError>
+pub(crate) fn close_to(
+    out: &mut String,
+    pool: &Pool,
+    names: &mut OpenNames,
+    depth: usize,
+) -> Result<(), AllocError>
     requires { names_given (length pool.now) names.old ≡ true }
     ensures out { OnOk result (string_bytes out.new ≡ string_bytes out.old ++ closes pool.now depth names.old) }
     ensures names { OnOk result (names.new ≡ cut depth names.old) }

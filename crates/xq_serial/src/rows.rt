@@ -3,7 +3,6 @@ ghost use Rattle.doc_table.specs.Enc.{enc, line_in, row_of};
 ghost use Rattle.xq_serial.specs.Walk.{start, start_of, pushed, cut, closes, rows_text, names_given};
 ghost use Rattle.doc_table.specs.Given.{line_given, tree_given};
 
-
 use crate::names::{OpenNames, close_to};
 use crate::tags::{push_comment_of, push_element, push_instruction_of, push_text_of};
 use doc_table::{Fragment, Kind, Row, Rows};
@@ -37,7 +36,14 @@ fn open_row(names: &mut OpenNames, row: Row) -> Result<(), AllocError>
 }
 
 /// Closes what ends before a row, and writes what stands where the row begins.
-fn push_row(out: &mut String, pool: &Pool, frag: &Fragment, pre: u32, base: u32, names: &mut OpenNames) -> Result<(), AllocError>
+fn push_row(
+    out: &mut String,
+    pool: &Pool,
+    frag: &Fragment,
+    pre: u32,
+    base: u32,
+    names: &mut OpenNames,
+) -> Result<(), AllocError>
     requires row { pre < length (enc frag.now) }
     requires given { line_given (length pool.now) (line_in (enc frag.now) pre) ≡ true }
     requires names { names_given (length pool.now) names.old ≡ true }
@@ -51,7 +57,13 @@ fn push_row(out: &mut String, pool: &Pool, frag: &Fragment, pre: u32, base: u32,
 }
 
 /// Writes the subtree whose first row is this.
-pub(crate) fn push_rows(alloc: Global, out: &mut String, pool: &Pool, frag: &Fragment, first: u32) -> Result<(), AllocError>
+pub(crate) fn push_rows(
+    alloc: Global,
+    out: &mut String,
+    pool: &Pool,
+    frag: &Fragment,
+    first: u32,
+) -> Result<(), AllocError>
     requires row { first < length (enc frag.now) }
     requires given { tree_given (length pool.now) frag.now ≡ true }
     ensures { OnOk result (string_bytes out.new ≡ string_bytes out.old ++ rows_text pool.now (line_in (enc frag.now) first).level [] (slice_range (enc frag.now) first (first + (line_in (enc frag.now) first).size + 1))) }

@@ -49,7 +49,11 @@ fn push_attribute(out: &mut String, pool: &Pool, pair: (TextId, TextId)) -> Resu
 }
 
 /// Writes attributes.
-fn push_attributes(out: &mut String, pool: &Pool, pairs: &[(TextId, TextId)]) -> Result<(), AllocError>
+fn push_attributes(
+    out: &mut String,
+    pool: &Pool,
+    pairs: &[(TextId, TextId)],
+) -> Result<(), AllocError>
     requires { list_all (pair_given (length pool.now)) pairs.now ≡ true }
     ensures { OnOk result (string_bytes out.new ≡ string_bytes out.old ++ ser_attributes (map (pair_with (text_in pool.now)) pairs.now)) }
 {
@@ -60,7 +64,13 @@ fn push_attributes(out: &mut String, pool: &Pool, pairs: &[(TextId, TextId)]) ->
 }
 
 /// Writes the start tag of an element, or the tag of an empty one.
-pub(crate) fn push_tag(out: &mut String, pool: &Pool, name: TextId, pairs: &[(TextId, TextId)], childless: bool) -> Result<(), AllocError>
+pub(crate) fn push_tag(
+    out: &mut String,
+    pool: &Pool,
+    name: TextId,
+    pairs: &[(TextId, TextId)],
+    childless: bool,
+) -> Result<(), AllocError>
     requires name { is_given (length pool.now) name ≡ true }
     requires pairs { list_all (pair_given (length pool.now)) pairs.now ≡ true }
     ensures { OnOk result (string_bytes out.new ≡ string_bytes out.old ++ (codes "<" ++ text_in pool.now name ++ ser_attributes (map (pair_with (text_in pool.now)) pairs.now) ++ tag_end childless)) }
@@ -78,7 +88,11 @@ fn tag_end(childless: bool) -> &'static str
 }
 
 /// Writes the end tag of an element; a document has none.
-pub(crate) fn push_end(out: &mut String, pool: &Pool, name: Option<TextId>) -> Result<(), AllocError>
+pub(crate) fn push_end(
+    out: &mut String,
+    pool: &Pool,
+    name: Option<TextId>,
+) -> Result<(), AllocError>
     requires { option_given (length pool.now) name ≡ true }
     ensures { OnOk result (string_bytes out.new ≡ string_bytes out.old ++ end_tag pool.now name) }
 {
@@ -103,7 +117,12 @@ pub(crate) fn push_comment(out: &mut String, pool: &Pool, value: TextId) -> Resu
 }
 
 /// Writes an instruction.
-pub(crate) fn push_instruction(out: &mut String, pool: &Pool, name: TextId, value: TextId) -> Result<(), AllocError>
+pub(crate) fn push_instruction(
+    out: &mut String,
+    pool: &Pool,
+    name: TextId,
+    value: TextId,
+) -> Result<(), AllocError>
     requires name { is_given (length pool.now) name ≡ true }
     requires value { is_given (length pool.now) value ≡ true }
     ensures { OnOk result (string_bytes out.new ≡ string_bytes out.old ++ ser_instruction (text_in pool.now name) (text_in pool.now value)) }
@@ -133,7 +152,13 @@ fn push_content(out: &mut String, pool: &Pool, id: TextId) -> Result<(), AllocEr
 }
 
 /// Writes the start tag of a row with a name, or the tag of one without children.
-pub(crate) fn push_element(out: &mut String, pool: &Pool, name: Option<TextId>, pairs: &[(TextId, TextId)], childless: bool) -> Result<(), AllocError>
+pub(crate) fn push_element(
+    out: &mut String,
+    pool: &Pool,
+    name: Option<TextId>,
+    pairs: &[(TextId, TextId)],
+    childless: bool,
+) -> Result<(), AllocError>
     requires name { option_given (length pool.now) name ≡ true }
     requires pairs { list_all (pair_given (length pool.now)) pairs.now ≡ true }
     ensures { OnOk result (string_bytes out.new ≡ string_bytes out.old ++ start_of pool.now Kind.Element name None pairs.now childless) }
@@ -145,7 +170,11 @@ pub(crate) fn push_element(out: &mut String, pool: &Pool, name: Option<TextId>, 
 }
 
 /// Writes the text of a row.
-pub(crate) fn push_text_of(out: &mut String, pool: &Pool, value: Option<TextId>) -> Result<(), AllocError>
+pub(crate) fn push_text_of(
+    out: &mut String,
+    pool: &Pool,
+    value: Option<TextId>,
+) -> Result<(), AllocError>
     requires { option_given (length pool.now) value ≡ true }
     ensures { OnOk result (string_bytes out.new ≡ string_bytes out.old ++ start_of pool.now Kind.Text None value [] true) }
 {
@@ -156,7 +185,11 @@ pub(crate) fn push_text_of(out: &mut String, pool: &Pool, value: Option<TextId>)
 }
 
 /// Writes the comment of a row.
-pub(crate) fn push_comment_of(out: &mut String, pool: &Pool, value: Option<TextId>) -> Result<(), AllocError>
+pub(crate) fn push_comment_of(
+    out: &mut String,
+    pool: &Pool,
+    value: Option<TextId>,
+) -> Result<(), AllocError>
     requires { option_given (length pool.now) value ≡ true }
     ensures { OnOk result (string_bytes out.new ≡ string_bytes out.old ++ start_of pool.now Kind.Comment None value [] true) }
 {
@@ -167,7 +200,12 @@ pub(crate) fn push_comment_of(out: &mut String, pool: &Pool, value: Option<TextI
 }
 
 /// Writes the instruction of a row.
-pub(crate) fn push_instruction_of(out: &mut String, pool: &Pool, name: Option<TextId>, value: Option<TextId>) -> Result<(), AllocError>
+pub(crate) fn push_instruction_of(
+    out: &mut String,
+    pool: &Pool,
+    name: Option<TextId>,
+    value: Option<TextId>,
+) -> Result<(), AllocError>
     requires name { option_given (length pool.now) name ≡ true }
     requires value { option_given (length pool.now) value ≡ true }
     ensures { OnOk result (string_bytes out.new ≡ string_bytes out.old ++ start_of pool.now Kind.Pi name value [] true) }
