@@ -1,0 +1,4 @@
+pub mod Exact
+pub mod Lexical
+pub mod Prologs
+pub mod Tags

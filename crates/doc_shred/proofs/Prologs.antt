@@ -1,0 +1,141 @@
+-- What stands before and after the root element is read as its productions say.
+use Rattle.std.proofs.Common.{◌≡◌, ℕ, zero, suc, ◌+◌, ◌<◌, ◌≤◌, Bool, true, false, not, ◌||◌, ◌&&◌, cond, nat_eq, List, [], ◌∷◌, ◌++◌, length, map, codes, ◌⊎◌, inl, inr, refl, sym, ap, ◌∙◌, subst, arith, true≢false, Option, Some, None, option_and_then, append-nil, append_assoc}
+use Rattle.std.specs.Char.{is_ascii_digit, is_ascii_alphabetic}
+use Rattle.doc_table.specs.Tree.{Tree, Branch, OfComment, OfInstruction, no_more}
+use Rattle.doc_shred.specs.Rules.{Rule, IsThen, ◌▷=◌, ◌▷◌, gives, where_, ◌or◌, word, many, IsMany, starts, begins, before, IsRunOf, any_of, some_of, Each}
+use Rattle.doc_shred.specs.Parsers.{Parser, after_run, run, strip, repeat}
+use Rattle.doc_shred.specs.Classes.{is_blank, are_chars, is_encoding_byte, is_public_byte}
+use Rattle.doc_shred.specs.Markup as m
+use Rattle.doc_shred.specs.Prolog as g
+use Rattle.doc_shred.specs.Reading as r
+use Rattle.doc_shred.proofs.Exact.{Exact, bound, chosen, then_exact, after_exact, give_exact, need_exact, or_exact, word_exact, any_of_exact, some_of_exact, before_exact, repeat_exact, begins_front, run_again, Strict, Narrow, then_narrow, then_strict, or_narrow, or_strict, gives_narrow, where_narrow, word_narrow, word_strict, any_of_narrow, some_of_narrow, some_of_strict, before_narrow, many_narrow}
+use Rattle.doc_shred.proofs.Lexical.{name_exact, equals_exact, comment_exact, instruction_exact, not_begins, name_narrow}
+
+pub quoted_exact : {A : Type 0} {R : Rule A} {p : Parser A} → Exact R p → Exact (g.quoted R) (r.quoted p)
+quoted_exact e = or_exact (begins (34 ∷ []))
+    (then_exact (after_exact (word_exact (34 ∷ [])) e) (λ a. after_exact (word_exact (34 ∷ [])) give_exact))
+    (then_exact (after_exact (word_exact (39 ∷ [])) e) (λ a. after_exact (word_exact (39 ∷ [])) give_exact))
+    (λ from rest a i. ap (begins (34 ∷ [])) i.first.first) (λ from rest a i. ap (begins (34 ∷ [])) i.first.first)
+
+pub version_number_exact : Exact g.version_number r.version_number
+unfolding g.version_number r.version_number
+version_number_exact = after_exact (word_exact (codes "1.")) (some_of_exact is_ascii_digit)
+
+pub version_exact : Exact g.version r.version
+unfolding g.version r.version
+version_exact = after_exact (after_exact (after_exact (some_of_exact is_blank) (word_exact (codes "version"))) equals_exact) (quoted_exact version_number_exact)
+
+pub encoding_name_exact : Exact g.encoding_name r.encoding_name
+unfolding g.encoding_name r.encoding_name
+encoding_name_exact = then_exact (any_of_exact is_encoding_byte) (λ e. after_exact need_exact give_exact)
+
+pub encoding_exact : Exact g.encoding r.encoding
+unfolding g.encoding r.encoding
+encoding_exact = after_exact (after_exact (after_exact (some_of_exact is_blank) (word_exact (codes "encoding"))) equals_exact) (quoted_exact encoding_name_exact)
+
+pub standalone_exact : Exact g.standalone r.standalone
+unfolding g.standalone r.standalone
+standalone_exact = after_exact (after_exact (after_exact (some_of_exact is_blank) (word_exact (codes "standalone"))) equals_exact)
+    (quoted_exact (or_exact (begins (codes "yes")) (word_exact (codes "yes")) (word_exact (codes "no")) (λ from rest a i. ap (begins (codes "yes")) i) (λ from rest a i. ap (begins (codes "yes")) i)))
+
+pub declaration_close_exact : Exact g.declaration_close r.declaration_close
+unfolding g.declaration_close r.declaration_close
+declaration_close_exact = after_exact (any_of_exact is_blank) (word_exact (codes "?>"))
+
+close_apart : (w : List ℕ) → begins w (codes "?>") ≡ false → ((rest : List ℕ) → begins w (codes "?>" ++ rest) ≡ false) → (from rest : List ℕ) (u : Unit {0}) → g.declaration_close from rest u → r.begins_after w from ≡ false
+unfolding g.declaration_close
+close_apart w short long from rest u i =
+    let blanks = run_again is_blank from i.mid i.part i.first in
+    ap (begins w) (blanks.1 ∙ i.second) ∙ long rest
+
+standalone_begins : (from rest : List ℕ) (u : Unit {0}) → g.standalone from rest u → (mid : List ℕ) × (after_run is_blank from ≡ codes "standalone" ++ mid)
+unfolding g.standalone
+standalone_begins from rest u i =
+    let f = i.first.first in
+    let blanks = run_again is_blank from f.mid f.part f.first.1 in
+    (i.first.mid, blanks.1 ∙ f.second)
+
+encoding_begins : (from rest e : List ℕ) → g.encoding from rest e → (mid : List ℕ) × (after_run is_blank from ≡ codes "encoding" ++ mid)
+unfolding g.encoding
+encoding_begins from rest e i =
+    let f = i.first.first in
+    let blanks = run_again is_blank from f.mid f.part f.first.1 in
+    (i.first.mid, blanks.1 ∙ f.second)
+
+pub declaration_end_exact : Exact g.declaration_end r.declaration_end
+unfolding g.declaration_end r.declaration_end
+declaration_end_exact = or_exact (r.begins_after (codes "standalone")) (after_exact standalone_exact declaration_close_exact) declaration_close_exact
+    (λ from rest u i. let s = standalone_begins from i.mid i.part i.first in ap (begins (codes "standalone")) s.1 ∙ begins_front (codes "standalone") s.0)
+    (close_apart (codes "standalone") refl (λ rest. refl))
+
+end_apart : (from rest : List ℕ) (u : Unit {0}) → g.declaration_end from rest u → r.begins_after (codes "encoding") from ≡ false
+unfolding g.declaration_end
+end_apart from rest u (inl i) = let s = standalone_begins from i.mid i.part i.first in ap (begins (codes "encoding")) s.1
+end_apart from rest u (inr i) = close_apart (codes "encoding") refl (λ rest. refl) from rest u i
+
+pub declaration_exact : Exact g.declaration r.declaration
+unfolding g.declaration r.declaration
+declaration_exact = after_exact (after_exact (word_exact (codes "<?xml")) version_exact)
+    (or_exact (r.begins_after (codes "encoding")) (then_exact encoding_exact (λ e. after_exact declaration_end_exact give_exact)) (after_exact declaration_end_exact give_exact)
+        (λ from rest a i. let s = encoding_begins from i.mid i.part i.first in ap (begins (codes "encoding")) s.1 ∙ begins_front (codes "encoding") s.0)
+        (λ from rest a i. end_apart from i.mid i.part i.first))
+
+-- ---- document type declarations
+
+pub literal_in_exact : (quote : ℕ) → Exact (g.literal_in quote) (r.literal_in quote)
+unfolding g.literal_in r.literal_in
+literal_in_exact quote = then_exact (after_exact (word_exact (quote ∷ [])) (any_of_exact _)) (λ v. after_exact (after_exact need_exact (word_exact (quote ∷ []))) give_exact)
+
+pub literal_exact : Exact g.literal r.literal
+unfolding g.literal r.literal g.literal_in
+literal_exact = or_exact (begins (34 ∷ [])) (literal_in_exact 34) (literal_in_exact 39)
+    (λ from rest a i. ap (begins (34 ∷ [])) i.first.first) (λ from rest a i. ap (begins (34 ∷ [])) i.first.first)
+
+pub public_in_exact : (quote : ℕ) → Exact (g.public_in quote) (r.public_in quote)
+unfolding g.public_in r.public_in
+public_in_exact quote = then_exact (after_exact (word_exact (quote ∷ [])) (any_of_exact _)) (λ v. after_exact (word_exact (quote ∷ [])) give_exact)
+
+pub public_literal_exact : Exact g.public_literal r.public_literal
+unfolding g.public_literal r.public_literal g.public_in
+public_literal_exact = or_exact (begins (34 ∷ [])) (public_in_exact 34) (public_in_exact 39)
+    (λ from rest a i. ap (begins (34 ∷ [])) i.first.first) (λ from rest a i. ap (begins (34 ∷ [])) i.first.first)
+
+pub external_exact : Exact g.external r.external
+unfolding g.external r.external
+external_exact = or_exact (begins (codes "SYSTEM"))
+    (after_exact (after_exact (word_exact (codes "SYSTEM")) (some_of_exact is_blank)) literal_exact)
+    (after_exact (after_exact (after_exact (after_exact (word_exact (codes "PUBLIC")) (some_of_exact is_blank)) public_literal_exact) (some_of_exact is_blank)) literal_exact)
+    (λ from rest a i. ap (begins (codes "SYSTEM")) i.first.first ∙ begins_front (codes "SYSTEM") i.first.mid)
+    (λ from rest a i. ap (begins (codes "SYSTEM")) i.first.first.first.first)
+
+external_starts : (from rest v : List ℕ) → g.external from rest v → starts is_ascii_alphabetic from ≡ true
+unfolding g.external
+external_starts from rest v (inl i) = ap (starts is_ascii_alphabetic) i.first.first
+external_starts from rest v (inr i) = ap (starts is_ascii_alphabetic) i.first.first.first.first
+
+pub doctype_end_exact : (closing : ℕ) → is_ascii_alphabetic closing ≡ false → Exact (g.doctype_end closing) (r.doctype_end closing)
+unfolding g.doctype_end r.doctype_end
+doctype_end_exact closing no_letter = or_exact (λ from. starts is_ascii_alphabetic (after_run is_blank from))
+    (after_exact (after_exact (after_exact (some_of_exact is_blank) external_exact) (any_of_exact is_blank)) (word_exact (closing ∷ [])))
+    (after_exact (any_of_exact is_blank) (word_exact (closing ∷ [])))
+    (λ from rest a i.
+    let f = i.first.first in
+    let blanks = run_again is_blank from f.mid f.part f.first.1 in
+    ap (starts is_ascii_alphabetic) blanks.1 ∙ external_starts f.mid i.first.mid i.first.part f.second)
+    (λ from rest a i.
+    let blanks = run_again is_blank from i.mid i.part i.first in
+    ap (starts is_ascii_alphabetic) (blanks.1 ∙ i.second) ∙ no_letter)
+
+pub doctype_exact : (closing : ℕ) → is_ascii_alphabetic closing ≡ false → Exact (g.doctype closing) (r.doctype closing)
+unfolding g.doctype r.doctype
+doctype_exact closing no_letter = after_exact (after_exact (after_exact (word_exact (codes "<!DOCTYPE")) (some_of_exact is_blank)) name_exact) (doctype_end_exact closing no_letter)
+
+-- ---- comments, instructions and white space
+
+comment_begins : (from rest v : List ℕ) → m.comment from rest v → (mid : List ℕ) × (from ≡ codes "<!--" ++ mid)
+unfolding m.comment
+comment_begins from rest v i = (i.first.mid, i.first.first)
+
+pub instruction_begins : (from rest : List ℕ) (v : List ℕ × List ℕ) → m.instruction from rest v → (mid : List ℕ) × (from ≡ codes "<?" ++ mid)
+unfolding m.instruction
+instruction_begins from rest v i = (i.first.mid, i.first.first)
