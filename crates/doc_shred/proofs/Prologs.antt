@@ -132,7 +132,7 @@ doctype_exact closing no_letter = after_exact (after_exact (after_exact (word_ex
 
 -- ---- comments, instructions and white space
 
-comment_begins : (from rest v : List ℕ) → m.comment from rest v → (mid : List ℕ) × (from ≡ codes "<!--" ++ mid)
+pub comment_begins : (from rest v : List ℕ) → m.comment from rest v → (mid : List ℕ) × (from ≡ codes "<!--" ++ mid)
 unfolding m.comment
 comment_begins from rest v i = (i.first.mid, i.first.first)
 

@@ -6,3 +6,4 @@ pub mod Parsers
 pub mod Prolog
 pub mod Reading
 pub mod Rules
+pub mod Walk
