@@ -1,4 +1,5 @@
 pub mod Complete
+pub mod Documents
 pub mod Exact
 pub mod Forests
 pub mod Lexical

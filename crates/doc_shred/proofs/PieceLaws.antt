@@ -31,15 +31,15 @@ start_apart k ks from rest t e i =
     let s = start_begins from rest t i in
     ap (begins (60 ∷ k ∷ ks)) s.1 ∙ not_begins is_name_byte k ks s.0 s.2 e
 
-slash_no_name : is_name_byte 47 ≡ false
+pub slash_no_name : is_name_byte 47 ≡ false
 unfolding is_name_byte is_name_char is_name_start
 slash_no_name = refl
 
-mark_no_name : is_name_byte 33 ≡ false
+pub mark_no_name : is_name_byte 33 ≡ false
 unfolding is_name_byte is_name_char is_name_start
 mark_no_name = refl
 
-question_no_name : is_name_byte 63 ≡ false
+pub question_no_name : is_name_byte 63 ≡ false
 unfolding is_name_byte is_name_char is_name_start
 question_no_name = refl
 

@@ -113,22 +113,32 @@ unfolding g.external
 external_starts from rest v (inl i) = ap (starts is_ascii_alphabetic) i.first.first
 external_starts from rest v (inr i) = ap (starts is_ascii_alphabetic) i.first.first.first.first
 
-pub doctype_end_exact : (closing : ℕ) → is_ascii_alphabetic closing ≡ false → Exact (g.doctype_end closing) (r.doctype_end closing)
+pub closing_exact : Exact g.closing r.closing
+unfolding g.closing r.closing
+closing_exact = or_exact (begins (codes ">")) (after_exact (word_exact (codes ">")) give_exact) (after_exact (word_exact (codes "[")) give_exact)
+    (λ from rest a i. ap (begins (codes ">")) i.first) (λ from rest a i. ap (begins (codes ">")) i.first)
+
+closing_starts : (from rest : List ℕ) (c : ℕ) → g.closing from rest c → starts is_ascii_alphabetic from ≡ false
+unfolding g.closing
+closing_starts from rest c (inl i) = ap (starts is_ascii_alphabetic) i.first
+closing_starts from rest c (inr i) = ap (starts is_ascii_alphabetic) i.first
+
+pub doctype_end_exact : Exact g.doctype_end r.doctype_end
 unfolding g.doctype_end r.doctype_end
-doctype_end_exact closing no_letter = or_exact (λ from. starts is_ascii_alphabetic (after_run is_blank from))
-    (after_exact (after_exact (after_exact (some_of_exact is_blank) external_exact) (any_of_exact is_blank)) (word_exact (closing ∷ [])))
-    (after_exact (any_of_exact is_blank) (word_exact (closing ∷ [])))
+doctype_end_exact = or_exact (λ from. starts is_ascii_alphabetic (after_run is_blank from))
+    (after_exact (after_exact (after_exact (some_of_exact is_blank) external_exact) (any_of_exact is_blank)) closing_exact)
+    (after_exact (any_of_exact is_blank) closing_exact)
     (λ from rest a i.
     let f = i.first.first in
     let blanks = run_again is_blank from f.mid f.part f.first.1 in
     ap (starts is_ascii_alphabetic) blanks.1 ∙ external_starts f.mid i.first.mid i.first.part f.second)
     (λ from rest a i.
     let blanks = run_again is_blank from i.mid i.part i.first in
-    ap (starts is_ascii_alphabetic) (blanks.1 ∙ i.second) ∙ no_letter)
+    ap (starts is_ascii_alphabetic) blanks.1 ∙ closing_starts i.mid rest a i.second)
 
-pub doctype_exact : (closing : ℕ) → is_ascii_alphabetic closing ≡ false → Exact (g.doctype closing) (r.doctype closing)
+pub doctype_exact : Exact g.doctype r.doctype
 unfolding g.doctype r.doctype
-doctype_exact closing no_letter = after_exact (after_exact (after_exact (word_exact (codes "<!DOCTYPE")) (some_of_exact is_blank)) name_exact) (doctype_end_exact closing no_letter)
+doctype_exact = after_exact (after_exact (after_exact (word_exact (codes "<!DOCTYPE")) (some_of_exact is_blank)) name_exact) doctype_end_exact
 
 -- ---- comments, instructions and white space
 
@@ -139,3 +149,15 @@ comment_begins from rest v i = (i.first.mid, i.first.first)
 pub instruction_begins : (from rest : List ℕ) (v : List ℕ × List ℕ) → m.instruction from rest v → (mid : List ℕ) × (from ≡ codes "<?" ++ mid)
 unfolding m.instruction
 instruction_begins from rest v i = (i.first.mid, i.first.first)
+
+pub misc_exact : Exact g.misc r.misc
+unfolding g.misc r.misc
+misc_exact = or_exact (starts is_blank) (after_exact (some_of_exact is_blank) give_exact)
+    (or_exact (begins (codes "<!--")) (then_exact comment_exact (λ v. give_exact)) (then_exact instruction_exact (λ i. give_exact))
+        (λ from rest a i. let s = comment_begins from i.mid i.part i.first in ap (begins (codes "<!--")) s.1)
+        (λ from rest a i. let s = instruction_begins from i.mid i.part i.first in ap (begins (codes "<!--")) s.1))
+    (λ from rest a i. i.first.0) marked_no_blank
+  where
+    marked_no_blank : (from rest : List ℕ) (a : List (Tree (List ℕ))) → (m.comment ▷= (λ v. gives (Branch (OfComment v) no_more ∷ [])) or m.instruction ▷= λ i. gives (Branch (OfInstruction i.0 i.1) no_more ∷ [])) from rest a → starts is_blank from ≡ false
+    marked_no_blank from rest a (inl i) = let s = comment_begins from i.mid i.part i.first in ap (starts is_blank) s.1
+    marked_no_blank from rest a (inr i) = let s = instruction_begins from i.mid i.part i.first in ap (starts is_blank) s.1

@@ -1,7 +1,7 @@
 -- XML documents, as a relation between bytes and trees, and what isn't read (XML 1.0, sections 2.1, 2.8 and 2.11).
 use Rattle.std.specs.Prelude.{◌≡◌, ℕ, suc, ◌<◌, max, Bool, true, false, ◌==◌, if◌then◌else◌, List, [], ◌∷◌, ◌++◌, ◌⊎◌, Option, Some, None, drop}
 use Rattle.doc_table.specs.Tree.{OfDocument, OfElement, Label, Tree, Forest, Branch, no_more, one_more, forest_of}
-use Rattle.doc_shred.specs.Rules.{Rule, ◌▷=◌, ◌▷◌, gives, ◌or◌, many, begins}
+use Rattle.doc_shred.specs.Rules.{Rule, ◌▷=◌, ◌▷◌, gives, where_, ◌or◌, many, begins}
 use Rattle.doc_shred.specs.Classes.{is_known_encoding}
 use Rattle.doc_shred.specs.Prolog.{declaration, doctype, misc}
 use Rattle.doc_shred.specs.Content.{Text, IsNode}
@@ -40,7 +40,7 @@ miscs = many misc ▷= λ found. gives (appended found)
 
 -- (doctypedecl Misc*)? (section 2.8, production 22)
 unfoldable pub typed : Rule (List (Tree Text))
-typed = doctype 62 ▷ miscs or gives []
+typed = doctype ▷= (λ c. where_ (c == 62) ▷ miscs) or gives []
 
 -- the root element (section 2.1, production 1)
 abbrev pub root : Rule (Tree Text)
@@ -56,15 +56,16 @@ document = head ▷ miscs ▷= λ first. typed ▷= λ second. root ▷= λ elem
 abbrev pub IsDocument : List ℕ → Tree Text → Type 0
 IsDocument bytes tree = (kids : List (Tree Text)) × (tree ≡ Branch OfDocument (forest_of kids)) × document (text_of bytes) [] kids
 
--- A front of the document names another encoding than UTF-8 or US-ASCII in its declaration, or begins an internal subset
+-- XMLDecl? Misc* and the begin of a document type declaration, up to its internal subset
+unfoldable pub subset : Rule (Unit {0})
+subset = head ▷ miscs ▷ doctype ▷= λ c. where_ (c == 91)
+
+-- A front of the document names another encoding than UTF-8 or US-ASCII in its declaration, or comes to an internal subset
 -- (own rule).
 abbrev pub IsUnsupportedText : List ℕ → Type 0
 IsUnsupportedText text =
     ((rest encoding : List ℕ) × declaration text rest (Some encoding) × (is_known_encoding encoding ≡ false))
-    ⊎ ((rest : List ℕ) × IsHeaded text rest)
-  where
-    IsHeaded : List ℕ → List ℕ → Type 0
-    IsHeaded text rest = (head ▷ miscs ▷ doctype 91) text rest tt
+    ⊎ ((rest : List ℕ) × subset text rest tt)
 
 abbrev pub IsUnsupported : List ℕ → Type 0
 IsUnsupported bytes = IsUnsupportedText (text_of bytes)

@@ -59,14 +59,18 @@ public_literal = public_in 34 or public_in 39
 unfoldable pub external : Rule (List ℕ)
 external = word (codes "SYSTEM") ▷ space ▷ literal or word (codes "PUBLIC") ▷ space ▷ public_literal ▷ space ▷ literal
 
--- what follows the name, up to this byte
-unfoldable pub doctype_end : ℕ → Rule (Unit {0})
-doctype_end closing = space ▷ external ▷ spaces ▷ word (closing ∷ []) or spaces ▷ word (closing ∷ [])
+-- the byte that ends a declaration, or the one that begins an internal subset in its place
+unfoldable pub closing : Rule ℕ
+closing = word (codes ">") ▷ gives 62 or word (codes "[") ▷ gives 91
 
--- doctypedecl ::= '<!DOCTYPE' S Name (S ExternalID)? S? '>' without an internal subset, which would begin with '[' in place
--- of the '>' (production 28)
-unfoldable pub doctype : ℕ → Rule (Unit {0})
-doctype closing = word (codes "<!DOCTYPE") ▷ space ▷ name ▷ doctype_end closing
+-- what follows the name, up to that byte
+unfoldable pub doctype_end : Rule ℕ
+doctype_end = space ▷ external ▷ spaces ▷ closing or spaces ▷ closing
+
+-- doctypedecl ::= '<!DOCTYPE' S Name (S ExternalID)? S? '>', with the byte that ends it: it is '[' in place of '>' where an
+-- internal subset begins (production 28)
+unfoldable pub doctype : Rule ℕ
+doctype = word (codes "<!DOCTYPE") ▷ space ▷ name ▷ doctype_end
 
 -- Misc ::= Comment | PI | S, with the nodes that it gives (production 27)
 unfoldable pub misc : Rule (List (Tree (List ℕ)))

@@ -158,13 +158,14 @@ external =
     choose (begins (codes "SYSTEM")) (strip (codes "SYSTEM") >> space >> literal)
     (strip (codes "PUBLIC") >> space >> public_literal >> space >> literal)
 
-unfoldable pub doctype_end : ℕ → Parser (Unit {0})
-doctype_end closing =
-    choose (λ from. starts is_ascii_alphabetic (after_run is_blank from)) (space >> external >> spaces >> strip (closing ∷ []))
-    (spaces >> strip (closing ∷ []))
+unfoldable pub closing : Parser ℕ
+closing = choose (begins (codes ">")) (strip (codes ">") >> give 62) (strip (codes "[") >> give 91)
 
-unfoldable pub doctype : ℕ → Parser (Unit {0})
-doctype closing = strip (codes "<!DOCTYPE") >> space >> name >> doctype_end closing
+unfoldable pub doctype_end : Parser ℕ
+doctype_end = choose (λ from. starts is_ascii_alphabetic (after_run is_blank from)) (space >> external >> spaces >> closing) (spaces >> closing)
+
+unfoldable pub doctype : Parser ℕ
+doctype = strip (codes "<!DOCTYPE") >> space >> name >> doctype_end
 
 unfoldable pub misc : Parser (List (Tree (List ℕ)))
 misc =

@@ -1,12 +1,13 @@
 -- Content as the loop of the code reads it: piece after piece, with the open elements, the innermost first.
-use Rattle.std.specs.Prelude.{ℕ, zero, suc, ◌+◌, Bool, true, false, List, [], ◌∷◌, ◌++◌, length, codes, Option, Some, None, option_and_then, if◌then◌else◌}
+use Rattle.std.specs.Prelude.{ℕ, zero, suc, ◌+◌, ◌==◌, ◌||◌, not, Bool, true, false, List, [], ◌∷◌, ◌++◌, length, codes, Option, Some, None, option_and_then, if◌then◌else◌}
 use Rattle.std.specs.Str.{bytes_eq}
 use Rattle.doc_table.specs.Tree.{Label, OfDocument, OfElement, OfText, OfComment, OfInstruction, Tree, Forest, Branch, no_more, one_more, forest_of}
 use Rattle.doc_table.specs.Spine.{Open, tree_of}
-use Rattle.doc_shred.specs.Rules.{begins}
+use Rattle.doc_shred.specs.Rules.{begins, starts as starts_with}
+use Rattle.doc_shred.specs.Classes.{is_blank, is_known_encoding}
 use Rattle.doc_shred.specs.Parsers.{Parser, ◌>>=◌, ◌>>◌, give, need, choose}
 use Rattle.doc_shred.specs.Markup.{Tag}
-use Rattle.doc_shred.specs.Reading.{comment, instruction, start, end_tag, text_run}
+use Rattle.doc_shred.specs.Reading.{comment, instruction, start, end_tag, text_run, misc, declaration, doctype}
 use Rattle.doc_shred.specs.Content.{Text}
 
 abbrev pub Nodes : Type 0
@@ -83,3 +84,72 @@ content (suc n) from names os = turn (content n) from names os
 -- the root element
 abbrev pub root_from : ℕ → List ℕ → Nodes → Walked
 root_from n from os = option_and_then (λ (x : Tag × List ℕ). step (starts x.0) (content n x.1) [] os) (start from)
+
+-- ---- before and after the root element
+
+-- the innermost open node has these children more
+abbrev pub put_list : List (Tree Text) → Nodes → Nodes
+put_list [] os = os
+put_list (t ∷ ts) os = put_list ts (put_node t os)
+
+-- white space, a comment or an instruction comes next
+abbrev pub has_misc : List ℕ → Bool
+has_misc from = starts_with is_blank from || begins (codes "<!--") from || begins (codes "<?") from
+
+unfoldable pub miscs_from : ℕ → List ℕ → Nodes → Walked
+miscs_from zero from os = None
+miscs_from (suc n) from os = if has_misc from then option_and_then (λ (x : List (Tree Text) × List ℕ). miscs_from n x.1 (put_list x.0 os)) (misc from) else Some (os, from)
+
+abbrev pub miscs : List ℕ → Nodes → Walked
+miscs from os = miscs_from (length from + 1) from os
+
+-- the encoding that a declaration names, and what follows the declaration, or the whole text where it has none
+abbrev pub declared : Option (Option Text × List ℕ) → List ℕ → Option Text × List ℕ
+declared None text = (None, text)
+declared (Some x) text = x
+
+abbrev pub head : List ℕ → Option Text × List ℕ
+head text = declared (declaration text) text
+
+-- a document type declaration without an internal subset, and what may follow it before the root element
+abbrev pub after_doctype : Nodes → ℕ × List ℕ → Walked
+after_doctype os x = if x.0 == 62 then miscs x.1 os else None
+
+abbrev pub typed : List ℕ → Nodes → Walked
+typed from os = if begins (codes "<!DOCTYPE") from then option_and_then (after_doctype os) (doctype from) else Some (os, from)
+
+abbrev pub root : List ℕ → Nodes → Walked
+root from os = root_from (length from) from os
+
+-- the nodes, where nothing is left
+abbrev pub at_end : Nodes × List ℕ → Option Nodes
+at_end (os, []) = Some os
+at_end (os, c ∷ cs) = None
+
+-- a document without children
+abbrev pub new_document : Nodes
+new_document = record { label = OfDocument; done = [] } ∷ []
+
+-- all that stands before the root element
+abbrev pub prolog : List ℕ → Walked
+prolog text = option_and_then (λ (x : Nodes × List ℕ). typed x.1 x.0) (miscs (head text).1 new_document)
+
+-- the open document with its children
+unfoldable pub document : List ℕ → Option Nodes
+document text =
+    option_and_then at_end (option_and_then (λ (x : Nodes × List ℕ). miscs x.1 x.0) (option_and_then (λ (x : Nodes × List ℕ). root x.1 x.0) (prolog text)))
+
+abbrev pub is_unknown : Option Text → Bool
+is_unknown None = false
+is_unknown (Some encoding) = not (is_known_encoding encoding)
+
+abbrev pub comes_to_subset : Option (ℕ × List ℕ) → Bool
+comes_to_subset None = false
+comes_to_subset (Some x) = x.0 == 91
+
+abbrev pub has_subset : Walked → Bool
+has_subset None = false
+has_subset (Some x) = comes_to_subset (doctype x.1)
+
+unfoldable pub is_unsupported : List ℕ → Bool
+is_unsupported text = is_unknown (head text).0 || has_subset (miscs (head text).1 new_document)
