@@ -3,3 +3,11 @@ pub mod ByRows
 pub mod Ways
 pub mod Kids
 pub mod Orders
+pub mod Closing
+pub mod KeptRows
+pub mod SpineRows
+pub mod Soundness
+pub mod Steps
+pub mod Looks
+pub mod Finds
+pub mod SpineLaws

@@ -9,5 +9,8 @@ pub mod Touched
 pub mod Spine
 pub mod Sound
 pub mod Codes
+pub mod Kept
+pub mod Growth
+pub mod Stores
 pub mod Notes
 pub mod Account
