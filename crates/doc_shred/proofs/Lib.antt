@@ -5,5 +5,7 @@ pub mod Forests
 pub mod Lexical
 pub mod PieceLaws
 pub mod Prologs
+pub mod Runs
 pub mod Sound
+pub mod Spelled
 pub mod Tags

@@ -6,4 +6,5 @@ pub mod Parsers
 pub mod Prolog
 pub mod Reading
 pub mod Rules
+pub mod Views
 pub mod Walk
