@@ -1,8 +1,12 @@
+pub mod Blanks
 pub mod Complete
 pub mod Documents
 pub mod Exact
 pub mod Forests
+pub mod Gathering
 pub mod Lexical
+pub mod Numbers
+pub mod Passing
 pub mod PieceLaws
 pub mod Prologs
 pub mod Runs

@@ -5,7 +5,7 @@ use Rattle.std.specs.List.{prefix_len}
 use Rattle.std.specs.Cmp.Lexicographic.{pointwise}
 use Rattle.std.specs.Borrow.{Bor}
 use Rattle.doc_shred.specs.Rules.{begins, holds}
-use Rattle.doc_shred.specs.Parsers.{run, after_run, strip, before_first}
+use Rattle.doc_shred.specs.Parsers.{run, after_run, strip, before_first, fronted}
 use Rattle.doc_shred.specs.Views.{Lent, silent}
 
 pub run_taken : (p : ℕ → Bool) (bytes : List ℕ) → take (prefix_len p bytes) bytes ≡ run p bytes
@@ -57,10 +57,6 @@ same_side (Some x) = refl
 
 pub begins_stripped : (r : Option Lent) (w from : List ℕ) → silent r ≡ strip w from → is_some r ≡ begins w from
 begins_stripped r w from e = same_side r ∙ ap is_some e ∙ begins_by w from
-
--- with these bytes in front of what was read
-abbrev pub fronted : List ℕ → Option (List ℕ × List ℕ) → Option (List ℕ × List ℕ)
-fronted front = option_map (λ (x : List ℕ × List ℕ). (front ++ x.0, x.1))
 
 pub fronted-nil : (o : Option (List ℕ × List ℕ)) → fronted [] o ≡ o
 fronted-nil None = refl

@@ -2,6 +2,7 @@ pub mod Classes
 pub mod Content
 pub mod Document
 pub mod Markup
+pub mod Outcomes
 pub mod Parsers
 pub mod Prolog
 pub mod Reading

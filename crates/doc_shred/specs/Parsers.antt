@@ -55,3 +55,7 @@ abbrev pub repeat : {A B : Type 0} → (List ℕ → Bool) → Parser A → (Lis
 repeat test p q before zero from = None
 repeat test p q before (suc n) from =
     if test from then option_and_then (λ x. repeat test p q (before ++ x.0 ∷ []) n x.1) (p from) else q before from
+
+-- with these bytes in front of what was read
+abbrev pub fronted : List ℕ → Option (List ℕ × List ℕ) → Option (List ℕ × List ℕ)
+fronted front = option_map (λ (x : List ℕ × List ℕ). (front ++ x.0, x.1))

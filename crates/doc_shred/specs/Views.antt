@@ -1,7 +1,7 @@
 -- The values of the code without where they lie in memory.
-use Rattle.std.specs.Prelude.{ℕ, Bool, not, ◌&&◌, ◌==◌, List, Option, option_map}
+use Rattle.std.specs.Prelude.{ℕ, Bool, not, ◌&&◌, ◌==◌, if◌then◌else◌, List, Option, option_map}
 use Rattle.std.specs.Borrow.{Bor}
-use Rattle.std.specs.Char.{is_ascii_digit, is_ascii_hexdigit, is_ascii_alphabetic}
+use Rattle.std.specs.Char.{encode_utf8, is_ascii_digit, is_ascii_hexdigit, is_ascii_alphabetic}
 use Rattle.doc_shred.specs.declared.bytes.Class.{Class}
 use Rattle.doc_shred.specs.declared.bytes.Class.TheVariants.{Blank, Name, Data, Value, Quoted, Public, Encoding, Letter, Digit, Hexadecimal}
 use Rattle.doc_shred.specs.Classes.{is_blank, is_name_byte, is_data_byte, is_value_byte, is_public_byte, is_encoding_byte}
@@ -38,3 +38,10 @@ target_of = option_map (λ x. ((x.0.0.now, x.0.1.now), x.1.now))
 
 abbrev pub flag_of : Option (Bool × Lent) → Option (Bool × List ℕ)
 flag_of = option_map (λ x. (x.0, x.1.now))
+
+-- a character by its bytes, and what is left
+abbrev pub char_of : Option (ℕ × Lent) → Option (List ℕ × List ℕ)
+char_of = option_map (λ x. (encode_utf8 x.0, x.1.now))
+
+abbrev pub radix_of : Bool → ℕ
+radix_of hexadecimal = if hexadecimal then 16 else 10

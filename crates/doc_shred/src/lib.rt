@@ -2,5 +2,8 @@
 #![tactic(auto)]
 
 mod bytes;
+mod fault;
 mod markup;
+mod references;
 mod texts;
+mod values;
