@@ -70,3 +70,43 @@ unfolding r.value_from
 value_no_turn quote text m i from all first l g =
     let none : m - i ≡ 0 = omega arith in
     sym g.2 ∙ ap (λ z. r.value_from quote g.0 z from) none
+
+-- ---- texts
+
+text_turn : (before : List (List ℕ)) (n : ℕ) (from rest v : List ℕ) → r.has_text from ≡ true → r.text_part from ≡ Some (v, rest) → r.text_from before (suc n) from ≡ r.text_from (before ++ v ∷ []) n rest
+unfolding r.text_from
+text_turn before n from rest v e p =
+    ap (λ b. cond b (option_and_then (λ (x : List ℕ × List ℕ). r.text_from (before ++ x.0 ∷ []) n x.1) (r.text_part from)) (Some (joined before, from))) e
+    ∙ ap (option_and_then (λ (x : List ℕ × List ℕ). r.text_from (before ++ x.0 ∷ []) n x.1)) p
+
+text_failed : (before : List (List ℕ)) (n : ℕ) (from : List ℕ) → r.has_text from ≡ true → r.text_part from ≡ None → r.text_from before (suc n) from ≡ None
+unfolding r.text_from
+text_failed before n from e p =
+    ap (λ b. cond b (option_and_then (λ (x : List ℕ × List ℕ). r.text_from (before ++ x.0 ∷ []) n x.1) (r.text_part from)) (Some (joined before, from))) e
+    ∙ ap (option_and_then (λ (x : List ℕ × List ℕ). r.text_from (before ++ x.0 ∷ []) n x.1)) p
+
+text_done : (before : List (List ℕ)) (n : ℕ) (from : List ℕ) → r.has_text from ≡ false → r.text_from before (suc n) from ≡ Some (joined before, from)
+unfolding r.text_from
+text_done before n from e = ap (λ b. cond b (option_and_then (λ (x : List ℕ × List ℕ). r.text_from (before ++ x.0 ∷ []) n x.1) (r.text_part from)) (Some (joined before, from))) e
+
+module _ (text : List ℕ) (m i : ℕ) (from : List ℕ) (all : ℕ) (first : List ℕ) (turns : i < m) (g : Gathers r.text_from text (m - i) from all first) where
+  text_left : m - i ≡ suc (m - (i + 1))
+  text_left = omega arith
+
+  pub text_goes_on : (new rest : List ℕ) → r.has_text from ≡ true → fronted text (r.text_part from) ≡ Some (new, rest) → Gathers r.text_from new (m - (i + 1)) rest all first
+  text_goes_on new rest e p =
+      let a = added text new rest (r.text_part from) p in
+      (g.0 ++ a.0 ∷ [], joined-push g.0 a.0 ∙ ap (λ z. z ++ a.0) g.1 ∙ sym a.2,
+          sym (text_turn g.0 (m - (i + 1)) from rest a.0 e a.1) ∙ ap (λ z. r.text_from g.0 z from) (sym text_left) ∙ g.2)
+
+  pub text_refused : r.has_text from ≡ true → fronted text (r.text_part from) ≡ None → r.text_from [] all first ≡ None
+  text_refused e p = sym g.2 ∙ ap (λ z. r.text_from g.0 z from) text_left ∙ text_failed g.0 (m - (i + 1)) from e (not_added text (r.text_part from) p)
+
+  pub text_ends : r.has_text from ≡ false → r.text_from [] all first ≡ Some (text, from)
+  text_ends e = sym g.2 ∙ ap (λ z. r.text_from g.0 z from) text_left ∙ text_done g.0 (m - (i + 1)) from e ∙ ap (λ z. Some (z, from)) g.1
+
+pub text_no_turn : (text : List ℕ) (m i : ℕ) (from : List ℕ) (all : ℕ) (first : List ℕ) → m ≤ i → Gathers r.text_from text (m - i) from all first → r.text_from [] all first ≡ None
+unfolding r.text_from
+text_no_turn text m i from all first l g =
+    let none : m - i ≡ 0 = omega arith in
+    sym g.2 ∙ ap (λ z. r.text_from g.0 z from) none

@@ -108,8 +108,14 @@ text_run from = text_from [] (length from + 1) from
 
 -- ---- prolog
 
+abbrev pub in_quotes : {A : Type 0} → Parser A → ℕ → Parser A
+in_quotes p quote = strip (quote ∷ []) >> p >>= λ a. strip (quote ∷ []) >> give a
+
 abbrev pub quoted : {A : Type 0} → Parser A → Parser A
-quoted p = choose (begins (34 ∷ [])) (strip (34 ∷ []) >> p >>= λ a. strip (34 ∷ []) >> give a) (strip (39 ∷ []) >> p >>= λ a. strip (39 ∷ []) >> give a)
+quoted p = choose (begins (34 ∷ [])) (in_quotes p 34) (in_quotes p 39)
+
+abbrev pub yes_or_no : Parser (Unit {0})
+yes_or_no = choose (begins (codes "yes")) (strip (codes "yes")) (strip (codes "no"))
 
 unfoldable pub version_number : Parser (List ℕ)
 version_number = strip (codes "1.") >> some_run_of is_ascii_digit
@@ -124,7 +130,7 @@ unfoldable pub encoding : Parser (List ℕ)
 encoding = space >> strip (codes "encoding") >> equals >> quoted encoding_name
 
 unfoldable pub standalone : Parser (Unit {0})
-standalone = space >> strip (codes "standalone") >> equals >> quoted (choose (begins (codes "yes")) (strip (codes "yes")) (strip (codes "no")))
+standalone = space >> strip (codes "standalone") >> equals >> quoted yes_or_no
 
 unfoldable pub declaration_close : Parser (Unit {0})
 declaration_close = spaces >> strip (codes "?>")

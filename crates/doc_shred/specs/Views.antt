@@ -45,3 +45,10 @@ char_of = option_map (λ x. (encode_utf8 x.0, x.1.now))
 
 abbrev pub radix_of : Bool → ℕ
 radix_of hexadecimal = if hexadecimal then 16 else 10
+
+-- the encoding that a declaration names, and what is left
+abbrev pub encoding_of : Option (Option Lent × Lent) → Option (Option (List ℕ) × List ℕ)
+encoding_of = option_map (λ x. (lent_of x.0, x.1.now))
+
+abbrev pub closing_of : Option (ℕ × Lent) → Option (ℕ × List ℕ)
+closing_of = option_map (λ x. (x.0, x.1.now))

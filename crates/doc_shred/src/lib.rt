@@ -2,8 +2,10 @@
 #![tactic(auto)]
 
 mod bytes;
+mod content;
 mod fault;
 mod markup;
+mod prolog;
 mod references;
 mod texts;
 mod values;
