@@ -12,4 +12,5 @@ pub mod Prologs
 pub mod Runs
 pub mod Sound
 pub mod Spelled
+pub mod Spines
 pub mod Tags

@@ -7,5 +7,6 @@ pub mod Parsers
 pub mod Prolog
 pub mod Reading
 pub mod Rules
+pub mod Standing
 pub mod Views
 pub mod Walk
