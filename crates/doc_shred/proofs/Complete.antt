@@ -9,7 +9,7 @@ use Rattle.doc_shred.specs.Reading as r
 use Rattle.doc_shred.specs.Content.{Text, Filled, IsPaired, IsFollowed, IsElement, IsNode, IsContent, AreMarked, IsFirst}
 use Rattle.doc_shred.specs.Walk.{Nodes, Walked, Piece, starts, ends, notes, instructs, piece, put_node, leaf, open_node, close_node, add_text, step, end_step, marked, turn, content, root_from}
 use Rattle.doc_shred.proofs.Exact.{Narrow, then_narrow, many_narrow, gives_narrow}
-use Rattle.doc_shred.proofs.Tags.{text_run_complete, text_part_strict, start_exact}
+use Rattle.doc_shred.proofs.TagLaws.{text_run_complete, text_part_strict, start_exact}
 use Rattle.doc_shred.proofs.PieceLaws.{start_no_text, end_no_text, comment_no_text, instruction_no_text, read_end, read_comment, read_instruction, read_start, start_strict, end_tag_strict, comment_strict, instruction_strict}
 use Rattle.doc_shred.proofs.Forests.{put_all, close-put_all}
 

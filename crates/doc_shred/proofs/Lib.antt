@@ -13,4 +13,4 @@ pub mod Runs
 pub mod Sound
 pub mod Spelled
 pub mod Spines
-pub mod Tags
+pub mod TagLaws

@@ -8,7 +8,7 @@ use Rattle.doc_shred.specs.Reading as r
 use Rattle.doc_shred.specs.Walk as w
 use Rattle.doc_shred.proofs.Exact.{Exact, then_exact, after_exact, give_exact, or_exact, begins_front, Strict, Narrow, then_narrow, then_strict, or_narrow, or_strict, gives_narrow, where_narrow, word_narrow, word_strict, any_of_narrow, some_of_narrow, some_of_strict, before_narrow, many_narrow}
 use Rattle.doc_shred.proofs.Lexical.{comment_exact, instruction_exact, not_begins, name_narrow}
-use Rattle.doc_shred.proofs.Tags.{start_exact, end_tag_exact, name_starts, tag_end_narrow, attribute_strict}
+use Rattle.doc_shred.proofs.TagLaws.{start_exact, end_tag_exact, name_starts, tag_end_narrow, attribute_strict}
 use Rattle.doc_shred.proofs.Prologs.{comment_begins, instruction_begins}
 
 -- what `piece` reads, as a rule

@@ -10,7 +10,7 @@ use Rattle.doc_shred.specs.Reading as r
 use Rattle.doc_shred.specs.Content.{Text, Filled, IsPaired, IsFollowed, IsElement, IsNode, IsContent, AreMarked, IsFirst}
 use Rattle.doc_shred.specs.Walk.{Nodes, Walked, Piece, starts, ends, notes, instructs, piece, put_node, leaf, open_node, close_node, add_text, step, end_step, marked, turn, content, root_from}
 use Rattle.doc_shred.proofs.Exact.{bound, chosen}
-use Rattle.doc_shred.proofs.Tags.{text_run_sound, start_exact}
+use Rattle.doc_shred.proofs.TagLaws.{text_run_sound, start_exact}
 use Rattle.doc_shred.proofs.PieceLaws.{IsPiece, piece_sound}
 use Rattle.doc_shred.proofs.Forests.{onto, onto-append, onto-none, text_list, text_onto, onto-text_list}
 

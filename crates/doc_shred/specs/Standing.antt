@@ -1,10 +1,12 @@
 -- A builder's open nodes as nodes with texts, by a pool that gives the texts of its numbers (own rule).
-use Rattle.std.specs.Prelude.{ℕ, ◌≡◌, ◌+◌, List, map, length, take, Option, Some, None, Result, Ok, Err}
+use Rattle.std.specs.Prelude.{ℕ, ◌≡◌, ◌+◌, true, false, List, [], ◌∷◌, map, length, take, slice_get, Option, Some, None}
 use Rattle.xq_base.specs.declared.item.TextId.{TextId}
-use Rattle.doc_table.specs.Tree.{text_in}
-use Rattle.doc_table.specs.Spine.{Open, Spine, open_with, rows_in}
+use Rattle.doc_table.specs.Tree.{Label, OfDocument, OfElement, OfAttribute, OfText, OfComment, OfInstruction, text_in, pair_with}
+use Rattle.doc_table.specs.Axes.{id_eq}
+use Rattle.doc_table.specs.Spine.{Open, Spine, open_with, rows_in, has_name_in, with_attribute}
 use Rattle.doc_shred.specs.Content.{Text}
-use Rattle.doc_shred.specs.Walk.{Nodes}
+use Rattle.doc_shred.specs.Walk.{Nodes, attributes}
+use Rattle.doc_shred.specs.Reading.{attribute}
 
 abbrev pub Texts : Type 0
 Texts = List Text
@@ -22,3 +24,45 @@ pub record Grown (added : ℕ) (old new : Spine TextId) : Type 0 where
   pub root : new.root ≡ None
   pub depth : length new.nodes ≡ length old.nodes
   pub rows : rows_in new ≡ rows_in old + added
+
+-- an attribute was read and added
+pub record AttributeAdded (texts : Texts) (old new : Spine TextId) (bytes rest : List ℕ) : Type 0 where
+  pub name : TextId
+  pub value : TextId
+  pub read : Text × Text
+  pub found : attribute bytes ≡ Some (read, rest)
+  pub named : slice_get texts name.0 ≡ Some read.0
+  pub valued : slice_get texts value.0 ≡ Some read.1
+  pub first : has_name_in id_eq name old.nodes ≡ false
+  pub added : new ≡ with_attribute name value old
+
+-- an attribute was read whose name the element has
+pub record AttributeTwice (texts : Texts) (old : Spine TextId) (bytes : List ℕ) : Type 0 where
+  pub name : TextId
+  pub read : Text × Text
+  pub rest : List ℕ
+  pub found : attribute bytes ≡ Some (read, rest)
+  pub named : slice_get texts name.0 ≡ Some read.0
+  pub again : has_name_in id_eq name old.nodes ≡ true
+
+-- the innermost open element has these attributes
+abbrev pub label_set : List (TextId × TextId) → Label TextId → Label TextId
+label_set as' (OfElement m bs) = OfElement m as'
+label_set as' OfDocument = OfDocument
+label_set as' (OfAttribute n v) = OfAttribute n v
+label_set as' (OfText v) = OfText v
+label_set as' (OfComment v) = OfComment v
+label_set as' (OfInstruction n v) = OfInstruction n v
+
+abbrev pub nodes_set : List (TextId × TextId) → List (Open TextId) → List (Open TextId)
+nodes_set as' [] = []
+nodes_set as' (o ∷ os) = record { label = label_set as' o.label; done = o.done } ∷ os
+
+abbrev pub with_attributes : List (TextId × TextId) → Spine TextId → Spine TextId
+with_attributes as' s = record { nodes = nodes_set as' s.nodes; root = s.root }
+
+-- the attributes of a tag were read and added
+pub record AttributesAdded (texts : Texts) (old new : Spine TextId) (bytes rest : List ℕ) : Type 0 where
+  pub all : List (TextId × TextId)
+  pub added : new ≡ with_attributes all old
+  pub found : (final : Texts) → IsLater texts final → attributes bytes ≡ Some (map (pair_with (text_in final)) all, rest)

@@ -2,12 +2,12 @@
 use Rattle.std.specs.Prelude.{ℕ, zero, suc, ◌+◌, ◌==◌, ◌||◌, not, Bool, true, false, List, [], ◌∷◌, ◌++◌, length, codes, Option, Some, None, option_and_then, if◌then◌else◌}
 use Rattle.std.specs.Str.{bytes_eq}
 use Rattle.doc_table.specs.Tree.{Label, OfDocument, OfElement, OfText, OfComment, OfInstruction, Tree, Forest, Branch, no_more, one_more, forest_of}
-use Rattle.doc_table.specs.Spine.{Open, tree_of}
+use Rattle.doc_table.specs.Spine.{Open, tree_of, is_named}
 use Rattle.doc_shred.specs.Rules.{begins, starts as starts_with}
 use Rattle.doc_shred.specs.Classes.{is_blank, is_known_encoding}
 use Rattle.doc_shred.specs.Parsers.{Parser, ◌>>=◌, ◌>>◌, give, need, choose}
 use Rattle.doc_shred.specs.Markup.{Tag}
-use Rattle.doc_shred.specs.Reading.{comment, instruction, start, end_tag, text_run, misc, declaration, doctype}
+use Rattle.doc_shred.specs.Reading.{comment, instruction, start, end_tag, text_run, misc, declaration, doctype, attribute, has_attribute}
 use Rattle.doc_shred.specs.Content.{Text}
 
 abbrev pub Nodes : Type 0
@@ -153,3 +153,15 @@ has_subset (Some x) = comes_to_subset (doctype x.1)
 
 unfoldable pub is_unsupported : List ℕ → Bool
 is_unsupported text = is_unknown (head text).0 || has_subset (miscs (head text).1 new_document)
+
+-- ---- start tags
+
+-- the attributes that are left of a tag, where these were read before and names differ
+unfoldable pub attributes_from : List (Text × Text) → ℕ → List ℕ → Option (List (Text × Text) × List ℕ)
+attributes_from found zero from = None
+attributes_from found (suc n) from =
+    if has_attribute from then option_and_then (λ (x : (Text × Text) × List ℕ). if is_named bytes_eq x.0.0 found then None else attributes_from (found ++ x.0 ∷ []) n x.1) (attribute from)
+    else Some (found, from)
+
+abbrev pub attributes : List ℕ → Option (List (Text × Text) × List ℕ)
+attributes from = attributes_from [] (length from + 1) from

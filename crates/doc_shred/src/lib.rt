@@ -7,5 +7,6 @@ mod fault;
 mod markup;
 mod prolog;
 mod references;
+mod tags;
 mod texts;
 mod values;
