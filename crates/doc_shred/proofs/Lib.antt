@@ -1,3 +1,4 @@
+pub mod AttributeLaws
 pub mod Blanks
 pub mod Complete
 pub mod Documents

@@ -61,3 +61,30 @@ fn add_attribute<'a>(
     builder.attribute(name, value)?;
     Ok(rest)
 }
+
+/// Reads the attributes of a tag and adds them to the open element.
+fn add_attributes<'a>(
+    alloc: Global,
+    pool: &mut Pool,
+    builder: &mut FragmentBuilder,
+    bytes: &'a [u8],
+) -> Result<&'a [u8], Fault>
+    requires element { takes_attributes builder.old.nodes ≡ true }
+    requires none { attributes_open builder.old.nodes ≡ [] }
+    requires room { length bytes.now + 1 < 2 ^ 32 - 1 }
+    ensures later { IsLater pool.old pool.new }
+    ensures added { IfOk result (λ rest. AttributesAdded pool.new builder.old builder.new bytes.now rest.now) }
+    ensures refused { result ≡ Err Malformed → w.attributes bytes.now ≡ None }
+{
+    let mut rest = bytes;
+    for _turn in 0..bytes.len() + 1 {
+        if !has_attribute(rest) {
+            return Ok(rest);
+        }
+        match add_attribute(alloc, pool, builder, rest) {
+            Err(error) => return Err(error),
+            Ok(after) => rest = after,
+        }
+    }
+    Err(Fault::Malformed)
+}
