@@ -14,4 +14,5 @@ pub mod Runs
 pub mod Sound
 pub mod Spelled
 pub mod Spines
+pub mod StartLaws
 pub mod TagLaws

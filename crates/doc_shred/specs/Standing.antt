@@ -1,12 +1,13 @@
 -- A builder's open nodes as nodes with texts, by a pool that gives the texts of its numbers (own rule).
-use Rattle.std.specs.Prelude.{ℕ, ◌≡◌, ◌+◌, true, false, List, [], ◌∷◌, map, length, take, slice_get, Option, Some, None}
+use Rattle.std.specs.Prelude.{ℕ, ◌≡◌, ◌+◌, ◌-◌, ◌^◌, ◌<◌, ◌≤◌, true, false, List, [], ◌∷◌, map, length, take, slice_get, Option, Some, None}
 use Rattle.xq_base.specs.declared.item.TextId.{TextId}
 use Rattle.doc_table.specs.Tree.{Label, OfDocument, OfElement, OfAttribute, OfText, OfComment, OfInstruction, text_in, pair_with}
 use Rattle.doc_table.specs.Axes.{id_eq}
-use Rattle.doc_table.specs.Spine.{Open, Spine, open_with, rows_in, has_name_in, with_attribute}
+use Rattle.doc_table.specs.Spine.{Open, Spine, open_with, rows_in, has_name_in, with_attribute, is_some_open, text_last}
 use Rattle.doc_shred.specs.Content.{Text}
-use Rattle.doc_shred.specs.Walk.{Nodes, attributes}
-use Rattle.doc_shred.specs.Reading.{attribute}
+use Rattle.doc_shred.specs.Walk.{Nodes, Walk, attributes, starts, step}
+use Rattle.doc_shred.specs.Markup.{Tag}
+use Rattle.doc_shred.specs.Reading.{attribute, start}
 
 abbrev pub Texts : Type 0
 Texts = List Text
@@ -66,3 +67,23 @@ pub record AttributesAdded (texts : Texts) (old new : Spine TextId) (bytes rest 
   pub all : List (TextId × TextId)
   pub added : new ≡ with_attributes all old
   pub found : (final : Texts) → IsLater texts final → attributes bytes ≡ Some (map (pair_with (text_in final)) all, rest)
+
+-- A piece of markup was read, and is in the builder: what a walk makes of the piece and of the rest, it makes of the rest from
+-- there on.
+pub record Walked (Stepped : Texts → Walk → Type 0) (texts : Texts) (names after : List Text) (old new : Spine TextId) : Type 0 where
+  pub root : new.root ≡ None
+  pub rows : rows_in new ≤ rows_in old + 1
+  pub depth : length new.nodes + length names ≡ length old.nodes + length after
+  pub calm : text_last new.nodes ≡ false
+  pub goes : (final : Texts) → IsLater texts final → (next : Walk) → Stepped final next
+
+-- the builder can take one more row
+pub record Takes (spine : Spine TextId) : Type 0 where
+  pub root : spine.root ≡ None
+  pub inside : is_some_open spine.nodes ≡ true
+  pub room : rows_in spine + 2 < 2 ^ 32 - 1
+
+-- the tag that was read, and what a walk makes of it
+abbrev pub Starts : List ℕ → List ℕ → List Text → List Text → Spine TextId → Spine TextId → Texts → Walk → Type 0
+Starts bytes rest names after old new final next =
+    (tag : Tag) × (start bytes ≡ Some (tag, rest)) × (step (starts tag) next names (seen final old) ≡ next after (seen final new))

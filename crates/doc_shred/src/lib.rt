@@ -5,6 +5,7 @@ mod bytes;
 mod content;
 mod fault;
 mod markup;
+mod names;
 mod prolog;
 mod references;
 mod tags;

@@ -5,13 +5,15 @@ ghost use Rattle.doc_table.specs.Spine.{takes_attributes, attributes_open};
 ghost use Rattle.doc_shred.specs.declared.fault.Fault.TheVariants.{Malformed};
 ghost use Rattle.doc_shred.specs.Outcomes.{IsRead};
 ghost use Rattle.doc_shred.specs.Reading as r;
-ghost use Rattle.doc_shred.specs.Standing.{IsLater, AttributeAdded, AttributeTwice, AttributesAdded};
+ghost use Rattle.doc_shred.specs.Standing.{IsLater, AttributeAdded, AttributeTwice, AttributesAdded, Walked, Takes, Starts};
 ghost use Rattle.doc_shred.specs.Walk as w;
 
 use crate::fault::Fault;
-use crate::markup::{equals, has_attribute, name, space};
+use crate::bytes::strip;
+use crate::markup::{equals, has_attribute, name, space, tag_end};
+use crate::names::OpenNames;
 use crate::values::value;
-use doc_table::FragmentBuilder;
+use doc_table::{FragmentBuilder, Kind};
 use std::alloc::Global;
 use xq_base::Pool;
 
@@ -87,4 +89,42 @@ fn add_attributes<'a>(
         }
     }
     Err(Fault::Malformed)
+}
+
+/// Reads a start tag, or the tag of an element without content, and opens the element or adds it
+/// (XML 1.0, section 3.1, productions 40 and 44).
+pub fn start_tag<'a>(
+    alloc: Global,
+    pool: &mut Pool,
+    builder: &mut FragmentBuilder,
+    names: &mut OpenNames<'a>,
+    bytes: &'a [u8],
+) -> Result<&'a [u8], Fault>
+    requires takes { Takes builder.old }
+    requires room { length bytes.now + 1 < 2 ^ 32 - 1 }
+    ensures later { IsLater pool.old pool.new }
+    ensures started { IfOk result (λ rest. Walked (Starts bytes.now rest.now names.old names.new builder.old builder.new) pool.new names.old names.new builder.old builder.new) }
+    ensures refused { result ≡ Err Malformed → r.start bytes.now ≡ None }
+{
+    let Some(rest) = strip(b"<", bytes) else {
+        return Err(Fault::Malformed);
+    };
+    let Some((name, rest)) = name(rest) else {
+        return Err(Fault::Malformed);
+    };
+    let id = pool.intern(name)?;
+    builder.open(Kind::Element, Some(id))?;
+    let rest = match add_attributes(alloc, pool, builder, rest) {
+        Err(error) => return Err(error),
+        Ok(rest) => rest,
+    };
+    let Some((is_empty, rest)) = tag_end(rest) else {
+        return Err(Fault::Malformed);
+    };
+    if is_empty {
+        builder.close();
+        return Ok(rest);
+    }
+    names.push(name)?;
+    Ok(rest)
 }
