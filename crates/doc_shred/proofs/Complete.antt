@@ -7,7 +7,7 @@ use Rattle.doc_table.specs.Spine.{Open, tree_of}
 use Rattle.doc_shred.specs.Markup as g
 use Rattle.doc_shred.specs.Reading as r
 use Rattle.doc_shred.specs.Content.{Text, Filled, IsPaired, IsFollowed, IsElement, IsNode, IsContent, AreMarked, IsFirst}
-use Rattle.doc_shred.specs.Walk.{Nodes, Walked, Piece, starts, ends, notes, instructs, piece, put_node, leaf, open_node, close_node, add_text, step, end_step, marked, turn, content, root_from}
+use Rattle.doc_shred.specs.Walk.{Nodes, Walked, Piece, starts, ends, notes, instructs, piece, put_node, leaf, open_node, close_node, add_text, step, end_step, marked, turn, content, root}
 use Rattle.doc_shred.proofs.Exact.{Narrow, then_narrow, many_narrow, gives_narrow}
 use Rattle.doc_shred.proofs.TagLaws.{text_run_complete, text_part_strict, start_exact}
 use Rattle.doc_shred.proofs.PieceLaws.{start_no_text, end_no_text, comment_no_text, instruction_no_text, read_end, read_comment, read_instruction, read_start, start_strict, end_tag_strict, comment_strict, instruction_strict}
@@ -130,15 +130,15 @@ mutual
       node_read t from i.mid name names os out i.first (content_read ts i.mid rest name names (put_node t os) out i.others e next)
 
 -- the root element is read
-pub root_read : (n : Text) (as' : List (Text × Text)) (f : Forest Text) (from rest : List ℕ) (os : Nodes) (m : ℕ) → length from ≤ m → IsNode (Branch (OfElement n as') f) from rest
-    → root_from m from os ≡ Some (put_node (Branch (OfElement n as') f) os, rest)
-root_read n as' f from rest os m l (inl i) =
-    ap (option_and_then (λ (x : g.Tag × List ℕ). step (starts x.0) (content m x.1) [] os)) (start_exact.complete from rest _ i.0)
-    ∙ ends_at m rest (leaf (OfElement n as') os) (omega (arith, start_strict from rest _ i.0))
+pub root_read : (n : Text) (as' : List (Text × Text)) (f : Forest Text) (from rest : List ℕ) (os : Nodes) → IsNode (Branch (OfElement n as') f) from rest
+    → root from os ≡ Some (put_node (Branch (OfElement n as') f) os, rest)
+root_read n as' f from rest os (inl i) =
+    ap (option_and_then (λ (x : g.Tag × List ℕ). step (starts x.0) (content (length x.1 + 1) x.1) [] os)) (start_exact.complete from rest _ i.0)
+    ∙ ends_at (length rest + 1) rest (leaf (OfElement n as') os) (omega arith)
     ∙ ap (λ (h : Forest Text). Some (put_node (Branch (OfElement n as') h) os, rest)) (sym i.1)
-root_read n as' f from rest os m l (inr i) =
-    ap (option_and_then (λ (x : g.Tag × List ℕ). step (starts x.0) (content m x.1) [] os)) (start_exact.complete from i.inside _ i.opened)
+root_read n as' f from rest os (inr i) =
+    ap (option_and_then (λ (x : g.Tag × List ℕ). step (starts x.0) (content (length x.1 + 1) x.1) [] os)) (start_exact.complete from i.inside _ i.opened)
     ∙ content_read f i.inside i.after n [] (open_node (OfElement n as') os) (Some (put_node (Branch (OfElement n as') f) os, rest)) i.content (end_no_text i.after rest n i.closed)
         (end_read i.after rest n [] (put_all f (open_node (OfElement n as') os)) (Some (put_node (Branch (OfElement n as') f) os, rest)) i.closed
             (λ k h. ends_at k rest (close_node (put_all f (open_node (OfElement n as') os))) h ∙ ap (λ z. Some (z, rest)) (close-put_all f (OfElement n as') os)))
-        m (omega (arith, start_strict from i.inside _ i.opened))
+        (length i.inside + 1) (omega arith)

@@ -219,7 +219,7 @@ put_list_is (t ∷ ts) done = put_list_is ts (done ++ t ∷ []) ∙ ap document_
 
 root_is_read : (from rest : List ℕ) (t : Tree Text) (os : Nodes) → d.root from rest t → w.root from os ≡ Some (put_node t os, rest)
 root_is_read from rest (Branch OfDocument f) os i = absurd i
-root_is_read from rest (Branch (OfElement n as') f) os i = root_read n as' f from rest os (length from) (omega arith) i
+root_is_read from rest (Branch (OfElement n as') f) os i = root_read n as' f from rest os i
 root_is_read from rest (Branch (OfAttribute n v) f) os i = absurd i
 root_is_read from rest (Branch (OfText v) f) os i = absurd i
 root_is_read from rest (Branch (OfComment v) f) os i = absurd i
@@ -296,7 +296,7 @@ document_sound text os e =
     let second = typed_sound b1.0.1 b1.0.0 b2.0 b1.2 in
     let before : b2.0.0 ≡ document_with (first.0 ++ second.0) = second.2 ∙ ap (put_list second.0) (first.2 ∙ put_list_is first.0 []) ∙ put_list_is second.0 first.0 in
     let read : w.root b2.0.1 (document_with (first.0 ++ second.0)) ≡ Some b3.0 = ap (w.root b2.0.1) (sym before) ∙ b2.2 in
-    let element = root_sound (length b2.0.1) (record { label = OfDocument; done = first.0 ++ second.0 }) b2.0.1 b3.0 read in
+    let element = root_sound (record { label = OfDocument; done = first.0 ++ second.0 }) b2.0.1 b3.0 read in
     let node : Tree Text = Branch (OfElement element.name element.attributes) element.kids in
     let last = miscs_sound (length b3.0.1 + 1) b3.0.1 b3.0.0 b4.0 b3.2 in
     let shut = ended b4.0 os b4.2 in

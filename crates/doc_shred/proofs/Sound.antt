@@ -8,7 +8,7 @@ use Rattle.doc_table.specs.Spine.{Open, tree_of}
 use Rattle.doc_shred.specs.Markup as g
 use Rattle.doc_shred.specs.Reading as r
 use Rattle.doc_shred.specs.Content.{Text, Filled, IsPaired, IsFollowed, IsElement, IsNode, IsContent, AreMarked, IsFirst}
-use Rattle.doc_shred.specs.Walk.{Nodes, Walked, Piece, starts, ends, notes, instructs, piece, put_node, leaf, open_node, close_node, add_text, step, end_step, marked, turn, content, root_from}
+use Rattle.doc_shred.specs.Walk.{Nodes, Walked, Piece, starts, ends, notes, instructs, piece, put_node, leaf, open_node, close_node, add_text, step, end_step, marked, turn, content, root}
 use Rattle.doc_shred.proofs.Exact.{bound, chosen}
 use Rattle.doc_shred.proofs.TagLaws.{text_run_sound, start_exact}
 use Rattle.doc_shred.proofs.PieceLaws.{IsPiece, piece_sound}
@@ -173,10 +173,11 @@ content_sound (suc n) base start y o os here e i =
         (record { at = i.at; inside = i.inside; outer = i.outer; tag = i.tag; so_far = IsRunPrefix.run o.done b.0.0 i.so_far run.0 }) (piece_sound b.0.1 c.0 c.1)
 
 -- what is read as the root element is one
-pub root_sound : (n : ℕ) (base : Open Text) (from : List ℕ) (y : Nodes × List ℕ) → root_from n from (base ∷ []) ≡ Some y → IsRoot base from y
+pub root_sound : (base : Open Text) (from : List ℕ) (y : Nodes × List ℕ) → root from (base ∷ []) ≡ Some y → IsRoot base from y
 unfolding content
-root_sound n base from y e =
-    let b = bound (λ (x : g.Tag × List ℕ). step (starts x.0) (content n x.1) [] (base ∷ [])) (r.start from) y e in
+root_sound base from y e =
+    let b = bound (λ (x : g.Tag × List ℕ). step (starts x.0) (content (length x.1 + 1) x.1) [] (base ∷ [])) (r.start from) y e in
+    let n : ℕ = length b.0.1 + 1 in
     let t = start_exact.sound from b.0 b.1 in
     chosen b.0.0.is_empty _ _ (Some y) (IsRoot base from y) b.2
         (λ h k. ended n b.0.0.name b.0.0.attributes b.0.1 (tag_is b.0.0 from b.0.1 true t h) k)

@@ -1,13 +1,14 @@
 -- A builder's open nodes as nodes with texts, by a pool that gives the texts of its numbers (own rule).
 use Rattle.std.specs.Prelude.{ℕ, ◌≡◌, ◌+◌, ◌-◌, ◌^◌, ◌<◌, ◌≤◌, true, false, List, [], ◌∷◌, map, length, take, slice_get, Option, Some, None}
+use Rattle.std.specs.Str.{bytes_eq}
 use Rattle.xq_base.specs.declared.item.TextId.{TextId}
 use Rattle.doc_table.specs.Tree.{Label, OfDocument, OfElement, OfAttribute, OfText, OfComment, OfInstruction, text_in, pair_with}
 use Rattle.doc_table.specs.Axes.{id_eq}
-use Rattle.doc_table.specs.Spine.{Open, Spine, open_with, rows_in, has_name_in, with_attribute, is_some_open, text_last}
+use Rattle.doc_table.specs.Spine.{Open, Spine, open_with, rows_in, has_name_in, with_attribute, with_leaf, closed, is_some_open, text_last}
 use Rattle.doc_shred.specs.Content.{Text}
 use Rattle.doc_shred.specs.Walk.{Nodes, Walk, attributes, starts, step}
 use Rattle.doc_shred.specs.Markup.{Tag}
-use Rattle.doc_shred.specs.Reading.{attribute, start}
+use Rattle.doc_shred.specs.Reading.{attribute, start, comment, instruction, text_run, end_tag}
 
 abbrev pub Texts : Type 0
 Texts = List Text
@@ -87,3 +88,67 @@ pub record Takes (spine : Spine TextId) : Type 0 where
 abbrev pub Starts : List ℕ → List ℕ → List Text → List Text → Spine TextId → Spine TextId → Texts → Walk → Type 0
 Starts bytes rest names after old new final next =
     (tag : Tag) × (start bytes ≡ Some (tag, rest)) × (step (starts tag) next names (seen final old) ≡ next after (seen final new))
+
+-- a comment was read and added
+pub record CommentAdded (texts : Texts) (old new : Spine TextId) (bytes rest : List ℕ) : Type 0 where
+  pub value : TextId
+  pub read : Text
+  pub found : comment bytes ≡ Some (read, rest)
+  pub valued : slice_get texts value.0 ≡ Some read
+  pub added : new ≡ with_leaf (OfComment value) old
+
+-- an instruction was read and added
+pub record InstructionAdded (texts : Texts) (old new : Spine TextId) (bytes rest : List ℕ) : Type 0 where
+  pub name : TextId
+  pub value : TextId
+  pub read : Text × Text
+  pub found : instruction bytes ≡ Some (read, rest)
+  pub named : slice_get texts name.0 ≡ Some read.0
+  pub valued : slice_get texts value.0 ≡ Some read.1
+  pub added : new ≡ with_leaf (OfInstruction name value) old
+
+-- a text was added, unless it is empty
+abbrev pub IsTextAdded : Texts → Spine TextId → Spine TextId → Text → Type 0
+IsTextAdded texts old new [] = new ≡ old
+IsTextAdded texts old new (c ∷ cs) = (value : TextId) × (slice_get texts value.0 ≡ Some (c ∷ cs)) × (new ≡ with_leaf (OfText value) old)
+
+pub record TextAdded (texts : Texts) (old new : Spine TextId) (bytes rest : List ℕ) : Type 0 where
+  pub read : Text
+  pub found : text_run bytes ≡ Some (read, rest)
+  pub added : IsTextAdded texts old new read
+
+-- an end tag has another name than the innermost open element
+abbrev pub IsOther : Text → List Text → Type 0
+IsOther n [] = Unit {0}
+IsOther n (m ∷ ms) = bytes_eq n m ≡ false
+
+-- an end tag was read that closes the innermost open element
+pub record ElementClosed (names after : List Text) (old new : Spine TextId) (bytes rest : List ℕ) : Type 0 where
+  pub name : Text
+  pub found : end_tag bytes ≡ Some (name, rest)
+  pub same : names ≡ name ∷ after
+  pub shut : new ≡ closed old
+
+pub record OtherEnd (names : List Text) (bytes : List ℕ) : Type 0 where
+  pub name : Text
+  pub rest : List ℕ
+  pub found : end_tag bytes ≡ Some (name, rest)
+  pub differs : IsOther name names
+
+-- What a walk makes of these bytes, it makes of the rest with what is in the builder then.
+pub record Passed (Reads : (List ℕ → Walk) → List ℕ → Walk) (texts : Texts) (names after : List Text) (old new : Spine TextId) (bytes rest : List ℕ) : Type 0 where
+  pub root : new.root ≡ None
+  pub room : rows_in new + length rest ≤ rows_in old + length bytes
+  pub fewer : length rest ≤ length bytes
+  pub depth : length new.nodes + length names ≡ length old.nodes + length after
+  pub calm : text_last new.nodes ≡ false
+  pub goes : (final : Texts) → IsLater texts final → (next : List ℕ → Walk) → Reads next bytes names (seen final old) ≡ next rest after (seen final new)
+
+-- no walk makes anything of these bytes
+abbrev pub IsMalformed : ((List ℕ → Walk) → List ℕ → Walk) → List Text → Spine TextId → List ℕ → Type 0
+IsMalformed Reads names old bytes = (final : Texts) (next : List ℕ → Walk) → Reads next bytes names (seen final old) ≡ None
+
+-- the builder can take the rows of these bytes
+pub record HasRoom (spine : Spine TextId) (bytes : List ℕ) : Type 0 where
+  pub root : spine.root ≡ None
+  pub room : rows_in spine + length bytes + 2 < 2 ^ 32 - 1

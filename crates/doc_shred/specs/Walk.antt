@@ -82,8 +82,8 @@ content zero from names os = None
 content (suc n) from names os = turn (content n) from names os
 
 -- the root element
-abbrev pub root_from : ℕ → List ℕ → Nodes → Walked
-root_from n from os = option_and_then (λ (x : Tag × List ℕ). step (starts x.0) (content n x.1) [] os) (start from)
+abbrev pub root : List ℕ → Nodes → Walked
+root from os = option_and_then (λ (x : Tag × List ℕ). step (starts x.0) (content (length x.1 + 1) x.1) [] os) (start from)
 
 -- ---- before and after the root element
 
@@ -117,9 +117,6 @@ after_doctype os x = if x.0 == 62 then miscs x.1 os else None
 
 abbrev pub typed : List ℕ → Nodes → Walked
 typed from os = if begins (codes "<!DOCTYPE") from then option_and_then (after_doctype os) (doctype from) else Some (os, from)
-
-abbrev pub root : List ℕ → Nodes → Walked
-root from os = root_from (length from) from os
 
 -- the nodes, where nothing is left
 abbrev pub at_end : Nodes × List ℕ → Option Nodes

@@ -6,6 +6,7 @@ mod content;
 mod fault;
 mod markup;
 mod names;
+mod pieces;
 mod prolog;
 mod references;
 mod tags;
