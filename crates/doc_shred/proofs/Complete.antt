@@ -142,3 +142,12 @@ root_read n as' f from rest os (inr i) =
         (end_read i.after rest n [] (put_all f (open_node (OfElement n as') os)) (Some (put_node (Branch (OfElement n as') f) os, rest)) i.closed
             (λ k h. ends_at k rest (close_node (put_all f (open_node (OfElement n as') os))) h ∙ ap (λ z. Some (z, rest)) (close-put_all f (OfElement n as') os)))
         (length i.inside + 1) (omega arith)
+
+-- where there are characters, what is left is shorter
+pub text_run_strict : (from rest v : List ℕ) (c : ℕ) (cs : List ℕ) → g.text_run from rest v → v ≡ c ∷ cs → length rest < length from
+unfolding g.text_run
+text_run_strict from rest v c cs i e = by i.first (i.second.1 ∙ e) i.second.0
+  where
+    by : {parts : List (List ℕ)} {mid : List ℕ} → Rattle.doc_shred.specs.Rules.IsMany g.text_part from mid parts → g.joined parts ≡ c ∷ cs → mid ≡ rest → length rest < length from
+    by Rattle.doc_shred.specs.Rules.IsMany.none f h = cc
+    by (Rattle.doc_shred.specs.Rules.IsMany.more {mid = next} {a = a} {others = others} first m) f h = omega (arith, text_part_strict from next a first, many_narrow (λ x y z w. omega (arith, text_part_strict x y z w)) next _ others m, ap length h)

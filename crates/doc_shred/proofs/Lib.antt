@@ -1,12 +1,14 @@
 pub mod AttributeLaws
 pub mod Blanks
 pub mod Complete
+pub mod Contents
 pub mod Documents
 pub mod Exact
 pub mod Forests
 pub mod Gathering
 pub mod Lexical
 pub mod Numbers
+pub mod Passes
 pub mod Passing
 pub mod PieceLaws
 pub mod Prologs

@@ -6,7 +6,7 @@ use Rattle.doc_table.specs.Spine.{Open, Spine, tree_of, put_in, with_leaf, opene
 use Rattle.doc_table.proofs.SpineLaws.{rows-opened, rows-leaf, rows-closed, rows-attribute, leaf-with, closed-with, attribute-with}
 use Rattle.doc_shred.specs.Content.{Text}
 use Rattle.doc_shred.specs.Walk.{Nodes, put_node, leaf, open_node, close_node}
-use Rattle.doc_shred.specs.Standing.{Texts, seen, IsLater, Grown}
+use Rattle.doc_shred.specs.Standing.{Texts, seen, IsLater, Grown, none_text}
 
 -- ---- texts by number
 
@@ -73,6 +73,11 @@ ends_as (u ∷ v ∷ ts) t = ends_as (v ∷ ts) t
 pub last_put : (t : Tree TextId) (root : Option (Tree TextId)) (os : List (Open TextId)) → is_text (Rattle.doc_table.specs.Tree.root_of t) ≡ false → text_last (put_in t root os).nodes ≡ false
 last_put t root [] e = refl
 last_put t root (o ∷ os) e = ends_as o.done t ∙ e
+
+-- what is put in opens nothing
+pub put_tags : (t : Tree TextId) (root : Option (Tree TextId)) (os : List (Open TextId)) → none_text (put_in t root os).nodes ≡ none_text os
+put_tags t root [] = refl
+put_tags t root (o ∷ os) = refl
 
 pub comment_seen : (texts final : Texts) (s new : Spine TextId) (id : TextId) (v : Text) → new ≡ with_leaf (OfComment id) s → slice_get texts id.0 ≡ Some v → IsLater texts final
     → seen final new ≡ leaf (OfComment v) (seen final s)

@@ -14,10 +14,10 @@ use Rattle.doc_shred.specs.Markup.{Tag}
 use Rattle.doc_shred.specs.Reading as r
 use Rattle.doc_shred.specs.Walk as w
 use Rattle.doc_shred.specs.Walk.{Walk, starts, step, open_node}
-use Rattle.doc_shred.specs.Standing.{Texts, seen, IsLater, AttributesAdded, Walked, Takes, Starts, label_set, nodes_set, with_attributes}
+use Rattle.doc_shred.specs.Standing.{Texts, seen, IsLater, AttributesAdded, none_text, Walked, Takes, Starts, label_set, nodes_set, with_attributes}
 use Rattle.doc_shred.proofs.Exact.{word_exact}
 use Rattle.doc_shred.proofs.Lexical.{name_exact, name_narrow}
-use Rattle.doc_shred.proofs.Spines.{text_kept, later_self, later_later, last_put, open_seen, closed_seen}
+use Rattle.doc_shred.proofs.Spines.{text_kept, later_self, later_later, last_put, put_tags, open_seen, closed_seen}
 
 -- ---- names that differ
 
@@ -165,6 +165,7 @@ module _ (bytes a : List ℕ) where
         root = ap (λ (z : Spine TextId). z.root) with_all ∙ none;
         rows = omega (arith, ap rows_in with_all, rows-opened (OfElement id added.all) s);
         depth = omega (arith, ap (λ (z : Spine TextId). length z.nodes) with_all, ap length g);
+        tags = ap (λ (z : Spine TextId). none_text z.nodes) with_all;
         calm = ap (λ (z : Spine TextId). text_last z.nodes) with_all;
         goes = λ final k next.
             let found : List (Text × Text) = map (pair_with (text_in final)) added.all in
@@ -180,6 +181,7 @@ module _ (bytes a : List ℕ) where
             root = ap (λ (z : Spine TextId). z.root) shut ∙ at_root s.nodes inside;
             rows = omega (arith, ap rows_in shut, rows-closed (opened (OfElement id added.all) s) refl none, rows-opened (OfElement id added.all) s);
             depth = omega (arith, ap (λ (z : Spine TextId). length z.nodes) shut, at_depth s.nodes inside);
+            tags = ap (λ (z : Spine TextId). none_text z.nodes) shut ∙ put_tags (Branch (OfElement id added.all) no_more) s.root s.nodes;
             calm = ap (λ (z : Spine TextId). text_last z.nodes) shut ∙ last_put (Branch (OfElement id added.all) no_more) s.root s.nodes refl;
             goes = λ final k next.
                 let found : List (Text × Text) = map (pair_with (text_in final)) added.all in

@@ -1,14 +1,14 @@
 -- A builder's open nodes as nodes with texts, by a pool that gives the texts of its numbers (own rule).
-use Rattle.std.specs.Prelude.{ℕ, ◌≡◌, ◌+◌, ◌-◌, ◌^◌, ◌<◌, ◌≤◌, true, false, List, [], ◌∷◌, map, length, take, slice_get, Option, Some, None}
+use Rattle.std.specs.Prelude.{ℕ, ◌≡◌, ◌+◌, ◌-◌, ◌^◌, ◌<◌, ◌≤◌, Bool, not, ◌&&◌, true, false, List, [], ◌∷◌, map, length, take, slice_get, Option, Some, None}
 use Rattle.std.specs.Str.{bytes_eq}
 use Rattle.xq_base.specs.declared.item.TextId.{TextId}
-use Rattle.doc_table.specs.Tree.{Label, OfDocument, OfElement, OfAttribute, OfText, OfComment, OfInstruction, text_in, pair_with}
+use Rattle.doc_table.specs.Tree.{Tree, Label, OfDocument, OfElement, OfAttribute, OfText, OfComment, OfInstruction, text_in, pair_with}
 use Rattle.doc_table.specs.Axes.{id_eq}
-use Rattle.doc_table.specs.Spine.{Open, Spine, open_with, rows_in, has_name_in, with_attribute, with_leaf, closed, is_some_open, text_last}
+use Rattle.doc_table.specs.Spine.{Open, Spine, is_text, open_with, rows_in, has_name_in, with_attribute, with_leaf, closed, is_some_open, text_last}
 use Rattle.doc_shred.specs.Content.{Text}
-use Rattle.doc_shred.specs.Walk.{Nodes, Walk, attributes, starts, step}
+use Rattle.doc_shred.specs.Walk.{Nodes, Walk, attributes, starts, step, content, put_list, miscs, root}
 use Rattle.doc_shred.specs.Markup.{Tag}
-use Rattle.doc_shred.specs.Reading.{attribute, start, comment, instruction, text_run, end_tag}
+use Rattle.doc_shred.specs.Reading.{attribute, start, comment, instruction, text_run, end_tag, misc}
 
 abbrev pub Texts : Type 0
 Texts = List Text
@@ -69,12 +69,18 @@ pub record AttributesAdded (texts : Texts) (old new : Spine TextId) (bytes rest 
   pub added : new ≡ with_attributes all old
   pub found : (final : Texts) → IsLater texts final → attributes bytes ≡ Some (map (pair_with (text_in final)) all, rest)
 
+-- no open node is a text
+abbrev pub none_text : List (Open TextId) → Bool
+none_text [] = true
+none_text (o ∷ os) = not (is_text o.label) && none_text os
+
 -- A piece of markup was read, and is in the builder: what a walk makes of the piece and of the rest, it makes of the rest from
 -- there on.
 pub record Walked (Stepped : Texts → Walk → Type 0) (texts : Texts) (names after : List Text) (old new : Spine TextId) : Type 0 where
   pub root : new.root ≡ None
   pub rows : rows_in new ≤ rows_in old + 1
   pub depth : length new.nodes + length names ≡ length old.nodes + length after
+  pub tags : none_text new.nodes ≡ none_text old.nodes
   pub calm : text_last new.nodes ≡ false
   pub goes : (final : Texts) → IsLater texts final → (next : Walk) → Stepped final next
 
@@ -135,20 +141,63 @@ pub record OtherEnd (names : List Text) (bytes : List ℕ) : Type 0 where
   pub found : end_tag bytes ≡ Some (name, rest)
   pub differs : IsOther name names
 
+-- The document and the elements of these names are open, and there is no root yet.
+pub record IsState (names : List Text) (spine : Spine TextId) : Type 0 where
+  pub root : spine.root ≡ None
+  pub depth : length spine.nodes ≡ length names + 1
+  pub tags : none_text spine.nodes ≡ true
+
 -- What a walk makes of these bytes, it makes of the rest with what is in the builder then.
 pub record Passed (Reads : (List ℕ → Walk) → List ℕ → Walk) (texts : Texts) (names after : List Text) (old new : Spine TextId) (bytes rest : List ℕ) : Type 0 where
-  pub root : new.root ≡ None
+  pub state : IsState after new
   pub room : rows_in new + length rest ≤ rows_in old + length bytes
   pub fewer : length rest ≤ length bytes
-  pub depth : length new.nodes + length names ≡ length old.nodes + length after
   pub calm : text_last new.nodes ≡ false
   pub goes : (final : Texts) → IsLater texts final → (next : List ℕ → Walk) → Reads next bytes names (seen final old) ≡ next rest after (seen final new)
 
 -- no walk makes anything of these bytes
-abbrev pub IsMalformed : ((List ℕ → Walk) → List ℕ → Walk) → List Text → Spine TextId → List ℕ → Type 0
-IsMalformed Reads names old bytes = (final : Texts) (next : List ℕ → Walk) → Reads next bytes names (seen final old) ≡ None
+abbrev pub IsMalformed : ((List ℕ → Walk) → List ℕ → Walk) → Texts → List Text → Spine TextId → List ℕ → Type 0
+IsMalformed Reads texts names old bytes = (final : Texts) → IsLater texts final → (next : List ℕ → Walk) → Reads next bytes names (seen final old) ≡ None
 
--- the builder can take the rows of these bytes
-pub record HasRoom (spine : Spine TextId) (bytes : List ℕ) : Type 0 where
-  pub root : spine.root ≡ None
-  pub room : rows_in spine + length bytes + 2 < 2 ^ 32 - 1
+-- the builder can take the rows of so many bytes
+abbrev pub HasRoom : Spine TextId → List ℕ → Type 0
+HasRoom spine bytes = rows_in spine + length bytes + 2 < 2 ^ 32 - 1
+
+-- The content of the open elements was read, up to the end tag of the outermost.
+pub record ContentRead (texts : Texts) (names : List Text) (old new : Spine TextId) (bytes rest : List ℕ) : Type 0 where
+  pub state : IsState [] new
+  pub room : rows_in new + length rest ≤ rows_in old + length bytes
+  pub fewer : length rest ≤ length bytes
+  pub reads : (final : Texts) → IsLater texts final → content (length bytes + 1) bytes names (seen final old) ≡ Some (seen final new, rest)
+
+abbrev pub NoContent : Texts → List Text → Spine TextId → List ℕ → Type 0
+NoContent texts names old bytes = (final : Texts) → IsLater texts final → content (length bytes + 1) bytes names (seen final old) ≡ None
+
+-- What stands outside the root element was read: white space, or a node that was added to the document.
+pub record MiscAdded (texts : Texts) (old new : Spine TextId) (bytes rest : List ℕ) : Type 0 where
+  pub state : IsState [] new
+  pub room : rows_in new + length rest ≤ rows_in old + length bytes
+  pub fewer : length rest < length bytes
+  pub read : List (Tree Text)
+  pub found : misc bytes ≡ Some (read, rest)
+  pub added : (final : Texts) → IsLater texts final → seen final new ≡ put_list read (seen final old)
+
+-- all that stands before or after the root element
+pub record MiscsRead (texts : Texts) (old new : Spine TextId) (bytes rest : List ℕ) : Type 0 where
+  pub state : IsState [] new
+  pub room : rows_in new + length rest ≤ rows_in old + length bytes
+  pub fewer : length rest ≤ length bytes
+  pub reads : (final : Texts) → IsLater texts final → miscs bytes (seen final old) ≡ Some (seen final new, rest)
+
+abbrev pub NoMiscs : Texts → Spine TextId → List ℕ → Type 0
+NoMiscs texts old bytes = (final : Texts) → IsLater texts final → miscs bytes (seen final old) ≡ None
+
+-- the root element
+pub record RootRead (texts : Texts) (old new : Spine TextId) (bytes rest : List ℕ) : Type 0 where
+  pub state : IsState [] new
+  pub room : rows_in new + length rest ≤ rows_in old + length bytes
+  pub fewer : length rest ≤ length bytes
+  pub reads : (final : Texts) → IsLater texts final → root bytes (seen final old) ≡ Some (seen final new, rest)
+
+abbrev pub NoRoot : Texts → Spine TextId → List ℕ → Type 0
+NoRoot texts old bytes = (final : Texts) → IsLater texts final → root bytes (seen final old) ≡ None

@@ -71,10 +71,14 @@ step (instructs n v) next names os = next names (leaf (OfInstruction n v) os)
 abbrev pub marked : (List ℕ → Walk) → List ℕ → Walk
 marked next from names os = option_and_then (λ (x : Piece × List ℕ). step x.0 (next x.1) names os) (piece from)
 
--- characters, and then that
+-- characters, and then a piece of markup
+abbrev pub texted : (List ℕ → Walk) → List ℕ → Walk
+texted next from names os = option_and_then (λ (x : Text × List ℕ). marked next x.1 names (add_text x.0 os)) (text_run from)
+
+-- a turn, unless no element is open
 abbrev pub turn : (List ℕ → Walk) → List ℕ → Walk
 turn next from [] os = Some (os, from)
-turn next from (n ∷ names) os = option_and_then (λ (x : Text × List ℕ). marked next x.1 (n ∷ names) (add_text x.0 os)) (text_run from)
+turn next from (n ∷ names) os = texted next from (n ∷ names) os
 
 -- The number bounds the turns.
 unfoldable pub content : ℕ → List ℕ → Walk

@@ -3,6 +3,7 @@
 
 mod bytes;
 mod content;
+mod document;
 mod fault;
 mod markup;
 mod names;

@@ -3,12 +3,15 @@ ghost use Rattle.std.specs.Prelude.{◌≡◌, ◌<◌, ◌+◌, ◌-◌, ◌^�
 ghost use Rattle.doc_table.specs.Spine.{is_some_open, rows_in, text_last};
 ghost use Rattle.doc_shred.specs.declared.fault.Fault.TheVariants.{Malformed};
 ghost use Rattle.doc_shred.specs.Reading as r;
-ghost use Rattle.doc_shred.specs.Standing.{IsLater, CommentAdded, InstructionAdded, TextAdded, ElementClosed, OtherEnd, Takes};
+ghost use Rattle.doc_shred.specs.Standing.{IsLater, CommentAdded, InstructionAdded, TextAdded, ElementClosed, OtherEnd, Takes, IsState, HasRoom, Passed, IsMalformed, ContentRead, NoContent};
+ghost use Rattle.doc_shred.specs.Walk.{marked, texted};
 
+use crate::bytes::comes_word;
 use crate::content::text_run;
 use crate::fault::Fault;
 use crate::markup::{comment, end_tag, instruction};
 use crate::names::OpenNames;
+use crate::tags::start_tag;
 use doc_table::FragmentBuilder;
 use std::alloc::Global;
 use xq_base::Pool;
@@ -99,4 +102,80 @@ pub fn add_text<'a>(
     let value = pool.intern(text.as_str())?;
     builder.text(value)?;
     Ok(rest)
+}
+
+/// Reads a piece of markup and puts it into the builder.
+fn piece<'a>(
+    alloc: Global,
+    pool: &mut Pool,
+    builder: &mut FragmentBuilder,
+    names: &mut OpenNames<'a>,
+    bytes: &'a [u8],
+) -> Result<&'a [u8], Fault>
+    requires state { IsState names.old builder.old }
+    requires room { HasRoom builder.old bytes.now }
+    ensures later { IsLater pool.old pool.new }
+    ensures passed { IfOk result (λ rest. Passed marked pool.new names.old names.new builder.old builder.new bytes.now rest.now) }
+    ensures refused { result ≡ Err Malformed → IsMalformed marked pool.new names.old builder.old bytes.now }
+{
+    if comes_word(b"</", bytes) {
+        return close_element(builder, names, bytes);
+    }
+    if comes_word(b"<!--", bytes) {
+        return add_comment(pool, builder, bytes);
+    }
+    if comes_word(b"<?", bytes) {
+        return add_instruction(pool, builder, bytes);
+    }
+    start_tag(alloc, pool, builder, names, bytes)
+}
+
+/// Reads the characters before the next piece of markup, and that piece.
+fn turn<'a>(
+    alloc: Global,
+    pool: &mut Pool,
+    builder: &mut FragmentBuilder,
+    names: &mut OpenNames<'a>,
+    bytes: &'a [u8],
+) -> Result<&'a [u8], Fault>
+    requires state { IsState names.old builder.old }
+    requires room { HasRoom builder.old bytes.now }
+    requires calm { text_last builder.old.nodes ≡ false }
+    ensures later { IsLater pool.old pool.new }
+    ensures passed { IfOk result (λ rest. Passed texted pool.new names.old names.new builder.old builder.new bytes.now rest.now) }
+    ensures refused { result ≡ Err Malformed → IsMalformed texted pool.new names.old builder.old bytes.now }
+{
+    let rest = match add_text(alloc, pool, builder, bytes) {
+        Err(error) => return Err(error),
+        Ok(rest) => rest,
+    };
+    piece(alloc, pool, builder, names, rest)
+}
+
+/// Reads content, while elements are open.
+pub fn content<'a>(
+    alloc: Global,
+    pool: &mut Pool,
+    builder: &mut FragmentBuilder,
+    names: &mut OpenNames<'a>,
+    bytes: &'a [u8],
+) -> Result<&'a [u8], Fault>
+    requires state { IsState names.old builder.old }
+    requires room { HasRoom builder.old bytes.now }
+    requires calm { text_last builder.old.nodes ≡ false }
+    ensures later { IsLater pool.old pool.new }
+    ensures found { IfOk result (λ rest. ContentRead pool.new names.old builder.old builder.new bytes.now rest.now) }
+    ensures refused { result ≡ Err Malformed → NoContent pool.new names.old builder.old bytes.now }
+{
+    let mut rest = bytes;
+    for _turn in 0..bytes.len() + 1 {
+        if names.is_empty() {
+            return Ok(rest);
+        }
+        match turn(alloc, pool, builder, names, rest) {
+            Err(error) => return Err(error),
+            Ok(after) => rest = after,
+        }
+    }
+    Err(Fault::Malformed)
 }

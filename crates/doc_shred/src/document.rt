@@ -1,0 +1,92 @@
+//! Whole documents: the prolog, the root element, and what follows it.
+ghost use Rattle.std.specs.Prelude.{◌≡◌, ◌<◌, ◌+◌, ◌-◌, ◌^◌, [], true, false, length, IfOk, Err, None};
+ghost use Rattle.doc_table.specs.Spine.{rows_in};
+ghost use Rattle.doc_shred.specs.declared.fault.Fault.TheVariants.{Malformed};
+ghost use Rattle.doc_shred.specs.Reading as r;
+ghost use Rattle.doc_shred.specs.Standing.{IsLater, IsState, HasRoom, MiscAdded, MiscsRead, NoMiscs, RootRead, NoRoot};
+ghost use Rattle.doc_shred.specs.Walk as w;
+
+use crate::bytes::{Class, comes, comes_word, split_run};
+use crate::fault::Fault;
+use crate::names::OpenNames;
+use crate::pieces::{add_comment, add_instruction, content};
+use crate::tags::start_tag;
+use doc_table::FragmentBuilder;
+use std::alloc::Global;
+use xq_base::Pool;
+
+/// Whether white space, a comment or an instruction comes next.
+fn has_misc(bytes: &[u8]) -> bool
+    ensures { result ≡ w.has_misc bytes.now }
+{
+    comes(Class::Blank, bytes) || comes_word(b"<!--", bytes) || comes_word(b"<?", bytes)
+}
+
+/// Reads white space, a comment or an instruction outside the root element (XML 1.0, section 2.8,
+/// production 27).
+fn misc<'a>(
+    pool: &mut Pool,
+    builder: &mut FragmentBuilder,
+    bytes: &'a [u8],
+) -> Result<&'a [u8], Fault>
+    requires state { IsState [] builder.old }
+    requires room { HasRoom builder.old bytes.now }
+    ensures later { IsLater pool.old pool.new }
+    ensures added { IfOk result (λ rest. MiscAdded pool.new builder.old builder.new bytes.now rest.now) }
+    ensures refused { result ≡ Err Malformed → r.misc bytes.now ≡ None }
+{
+    if comes(Class::Blank, bytes) {
+        let (_, rest) = split_run(Class::Blank, bytes);
+        return Ok(rest);
+    }
+    if comes_word(b"<!--", bytes) {
+        return add_comment(pool, builder, bytes);
+    }
+    add_instruction(pool, builder, bytes)
+}
+
+/// Reads what may stand before or after the root element.
+fn miscs<'a>(
+    pool: &mut Pool,
+    builder: &mut FragmentBuilder,
+    bytes: &'a [u8],
+) -> Result<&'a [u8], Fault>
+    requires state { IsState [] builder.old }
+    requires room { HasRoom builder.old bytes.now }
+    ensures later { IsLater pool.old pool.new }
+    ensures read { IfOk result (λ rest. MiscsRead pool.new builder.old builder.new bytes.now rest.now) }
+    ensures refused { result ≡ Err Malformed → NoMiscs pool.new builder.old bytes.now }
+{
+    let mut rest = bytes;
+    for _turn in 0..bytes.len() + 1 {
+        if !has_misc(rest) {
+            return Ok(rest);
+        }
+        match misc(pool, builder, rest) {
+            Err(error) => return Err(error),
+            Ok(after) => rest = after,
+        }
+    }
+    Err(Fault::Malformed)
+}
+
+/// Reads the root element.
+fn root<'a>(
+    alloc: Global,
+    pool: &mut Pool,
+    builder: &mut FragmentBuilder,
+    bytes: &'a [u8],
+) -> Result<&'a [u8], Fault>
+    requires state { IsState [] builder.old }
+    requires room { HasRoom builder.old bytes.now }
+    ensures later { IsLater pool.old pool.new }
+    ensures read { IfOk result (λ rest. RootRead pool.new builder.old builder.new bytes.now rest.now) }
+    ensures refused { result ≡ Err Malformed → NoRoot pool.new builder.old bytes.now }
+{
+    let mut names = OpenNames::new(alloc);
+    let rest = match start_tag(alloc, pool, builder, &mut names, bytes) {
+        Err(error) => return Err(error),
+        Ok(rest) => rest,
+    };
+    content(alloc, pool, builder, &mut names, rest)
+}
