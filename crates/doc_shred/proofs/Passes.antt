@@ -22,14 +22,14 @@ pub if_ok : {A E : Type 0} (P Q : A → Type 0) (o : Result A E) → IfOk o P �
 if_ok P Q (Ok a) h k = k a h
 if_ok P Q (Err e) h k = tt
 
-some_open : (names : List Text) (s : Spine TextId) → IsState names s → is_some_open s.nodes ≡ true
+pub some_open : (names : List Text) (s : Spine TextId) → IsState names s → is_some_open s.nodes ≡ true
 some_open names s i = by s.nodes i.depth
   where
     by : (os : List (Open TextId)) → length os ≡ length names + 1 → is_some_open os ≡ true
     by [] e = absurd (omega arith)
     by (o ∷ os) e = refl
 
-leaf_state : (names : List Text) (l : Label TextId) (s : Spine TextId) → IsState names s → IsState names (with_leaf l s)
+pub leaf_state : (names : List Text) (l : Label TextId) (s : Spine TextId) → IsState names s → IsState names (with_leaf l s)
 leaf_state names l s i =
     let g = leaf_grown l s (some_open names s i) i.root in
     record { root = g.root; depth = g.depth ∙ i.depth; tags = put_tags (Branch l no_more) s.root s.nodes ∙ i.tags }
