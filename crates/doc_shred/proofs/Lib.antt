@@ -7,6 +7,7 @@ pub mod Exact
 pub mod Forests
 pub mod Gathering
 pub mod Lexical
+pub mod LineLaws
 pub mod MiscLaws
 pub mod Numbers
 pub mod Passes

@@ -42,7 +42,7 @@ pub stripped : (r : Option Lent) (w from : List ℕ)
 stripped None w from h = sym (strip_by w from false h)
 stripped (Some x) w from h = ap (λ z. Some (tt, z)) h.1 ∙ sym (strip_by w from true h.0)
 
-begins_by : (w from : List ℕ) → is_some (strip w from) ≡ begins w from
+pub begins_by : (w from : List ℕ) → is_some (strip w from) ≡ begins w from
 begins_by [] from = refl
 begins_by (c ∷ cs) [] = refl
 begins_by (c ∷ cs) (d ∷ ds) = by (nat_eq d c) (begins_by cs ds)

@@ -71,13 +71,14 @@ abbrev pub IsUnsupported : List ℕ → Type 0
 IsUnsupported bytes = IsUnsupportedText (text_of bytes)
 
 -- the greatest level of a node, the document's being 0
-abbrev mutual
-  pub deepest : Tree Text → ℕ
-  deepest (Branch label kids) = deepest_in kids
+module _ {T : Type 0} where
+  abbrev mutual
+    pub deepest : Tree T → ℕ
+    deepest (Branch label kids) = deepest_in kids
 
-  pub deepest_in : Forest Text → ℕ
-  deepest_in no_more = 0
-  deepest_in (one_more t ts) = max (suc (deepest t)) (deepest_in ts)
+    pub deepest_in : Forest T → ℕ
+    deepest_in no_more = 0
+    deepest_in (one_more t ts) = max (suc (deepest t)) (deepest_in ts)
 
 -- the greatest level that is read (own rule)
 abbrev pub level_limit : ℕ

@@ -1,11 +1,12 @@
 -- A builder's open nodes as nodes with texts, by a pool that gives the texts of its numbers (own rule).
-use Rattle.std.specs.Prelude.{ℕ, ◌≡◌, ◌+◌, ◌-◌, ◌^◌, ◌<◌, ◌≤◌, Bool, not, ◌&&◌, true, false, List, [], ◌∷◌, map, length, take, slice_get, Option, Some, None}
+use Rattle.std.specs.Prelude.{ℕ, ◌≡◌, ◌+◌, ◌-◌, ◌^◌, ◌<◌, ◌≤◌, Bool, not, ◌&&◌, true, false, List, [], ◌∷◌, ◌++◌, map, length, take, slice_get, Option, Some, None}
 use Rattle.std.specs.Str.{bytes_eq}
 use Rattle.xq_base.specs.declared.item.TextId.{TextId}
 use Rattle.doc_table.specs.Tree.{Tree, Label, OfDocument, OfElement, OfAttribute, OfText, OfComment, OfInstruction, text_in, pair_with}
 use Rattle.doc_table.specs.Axes.{id_eq}
 use Rattle.doc_table.specs.Spine.{Open, Spine, is_text, open_with, rows_in, has_name_in, with_attribute, with_leaf, closed, is_some_open, text_last}
 use Rattle.doc_shred.specs.Content.{Text}
+use Rattle.doc_shred.specs.Document.{lines_from}
 use Rattle.doc_shred.specs.Walk.{Nodes, Walk, attributes, starts, step, content, put_list, miscs, root}
 use Rattle.doc_shred.specs.Markup.{Tag}
 use Rattle.doc_shred.specs.Reading.{attribute, start, comment, instruction, text_run, end_tag, misc}
@@ -201,3 +202,7 @@ pub record RootRead (texts : Texts) (old new : Spine TextId) (bytes rest : List 
 
 abbrev pub NoRoot : Texts → Spine TextId → List ℕ → Type 0
 NoRoot texts old bytes = (final : Texts) → IsLater texts final → root bytes (seen final old) ≡ None
+
+-- one byte of the text more
+abbrev pub LineAdded : List ℕ → List ℕ → Bool → Bool → ℕ → Type 0
+LineAdded old new after now byte = (rest : List ℕ) → new ++ lines_from now rest ≡ old ++ lines_from after (byte ∷ rest)

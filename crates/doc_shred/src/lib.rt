@@ -5,6 +5,7 @@ mod bytes;
 mod content;
 mod document;
 mod fault;
+mod lines;
 mod markup;
 mod names;
 mod pieces;
