@@ -13,6 +13,7 @@ pub mod Numbers
 pub mod Passes
 pub mod Passing
 pub mod PieceLaws
+pub mod PrologSteps
 pub mod Prologs
 pub mod Runs
 pub mod Sound

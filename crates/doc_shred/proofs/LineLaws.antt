@@ -54,10 +54,3 @@ joins_on out new after now bytes i byte l e a j =
 
 pub joins_all : (out : List ℕ) (after : Bool) (bytes : List ℕ) (i : ℕ) → length bytes ≤ i → Joins out after bytes i → out ≡ lines_joined bytes
 joins_all out after bytes i l j = sym (append-nil out) ∙ ap (λ z. out ++ z) (sym (at_drop_all (lines_from after) bytes i l)) ∙ j
-
--- ---- one byte
-
-pub return_added : (old new : List ℕ) (after : Bool) (byte : ℕ) → nat_eq byte 13 ≡ true → new ≡ old ++ 10 ∷ [] → LineAdded old new after true byte
-return_added old new after byte e f rest =
-    ap (λ z. z ++ lines_from true rest) f ∙ append_assoc old (10 ∷ []) (lines_from true rest)
-    ∙ ap (λ z. old ++ z) (ap (λ b. cond b (10 ∷ lines_from true rest) (cond (nat_eq byte 10) (cond after (lines_from false rest) (10 ∷ lines_from false rest)) (byte ∷ lines_from false rest))) (sym e))

@@ -9,7 +9,7 @@ use Rattle.doc_shred.specs.Markup as m
 use Rattle.doc_shred.specs.Prolog as g
 use Rattle.doc_shred.specs.Reading as r
 use Rattle.doc_shred.proofs.Exact.{Exact, bound, chosen, then_exact, after_exact, give_exact, need_exact, or_exact, word_exact, any_of_exact, some_of_exact, before_exact, repeat_exact, begins_front, run_again, Strict, Narrow, then_narrow, then_strict, or_narrow, or_strict, gives_narrow, where_narrow, word_narrow, word_strict, any_of_narrow, some_of_narrow, some_of_strict, before_narrow, many_narrow}
-use Rattle.doc_shred.proofs.Lexical.{name_exact, equals_exact, comment_exact, instruction_exact, not_begins, name_narrow}
+use Rattle.doc_shred.proofs.Lexical.{name_exact, equals_exact, comment_exact, instruction_exact, not_begins, name_narrow, equals_narrow}
 
 pub quoted_exact : {A : Type 0} {R : Rule A} {p : Parser A} → Exact R p → Exact (g.quoted R) (r.quoted p)
 quoted_exact e = or_exact (begins (34 ∷ []))
@@ -161,3 +161,88 @@ misc_exact = or_exact (starts is_blank) (after_exact (some_of_exact is_blank) gi
     marked_no_blank : (from rest : List ℕ) (a : List (Tree (List ℕ))) → (m.comment ▷= (λ v. gives (Branch (OfComment v) no_more ∷ [])) or m.instruction ▷= λ i. gives (Branch (OfInstruction i.0 i.1) no_more ∷ [])) from rest a → starts is_blank from ≡ false
     marked_no_blank from rest a (inl i) = let s = comment_begins from i.mid i.part i.first in ap (starts is_blank) s.1
     marked_no_blank from rest a (inr i) = let s = instruction_begins from i.mid i.part i.first in ap (starts is_blank) s.1
+
+closing_is : (from rest : List ℕ) (c : ℕ) → g.closing from rest c → (c ≡ 62) ⊎ (c ≡ 91)
+unfolding g.closing
+closing_is from rest c (inl i) = inl (sym i.second.1)
+closing_is from rest c (inr i) = inr (sym i.second.1)
+
+doctype_end_is : (from rest : List ℕ) (c : ℕ) → g.doctype_end from rest c → (c ≡ 62) ⊎ (c ≡ 91)
+unfolding g.doctype_end
+doctype_end_is from rest c (inl i) = closing_is i.mid rest c i.second
+doctype_end_is from rest c (inr i) = closing_is i.mid rest c i.second
+
+pub closing_of_doctype : (from rest : List ℕ) (c : ℕ) → g.doctype from rest c → (c ≡ 62) ⊎ (c ≡ 91)
+unfolding g.doctype
+closing_of_doctype from rest c i = doctype_end_is i.mid rest c i.second
+
+closing_narrow : Narrow g.closing
+unfolding g.closing
+closing_narrow = or_narrow (then_narrow (word_narrow (codes ">")) (λ _. gives_narrow _)) (then_narrow (word_narrow (codes "[")) (λ _. gives_narrow _))
+
+literal_in_narrow : (quote : ℕ) → Narrow (g.literal_in quote)
+unfolding g.literal_in
+literal_in_narrow quote = then_narrow (then_narrow (word_narrow (quote ∷ [])) (λ _. any_of_narrow _)) (λ v. then_narrow (then_narrow (where_narrow _) (λ _. word_narrow (quote ∷ []))) (λ _. gives_narrow _))
+
+literal_narrow : Narrow g.literal
+unfolding g.literal
+literal_narrow = or_narrow (literal_in_narrow 34) (literal_in_narrow 39)
+
+public_in_narrow : (quote : ℕ) → Narrow (g.public_in quote)
+unfolding g.public_in
+public_in_narrow quote = then_narrow (then_narrow (word_narrow (quote ∷ [])) (λ _. any_of_narrow _)) (λ v. then_narrow (word_narrow (quote ∷ [])) (λ _. gives_narrow _))
+
+public_narrow : Narrow g.public_literal
+unfolding g.public_literal
+public_narrow = or_narrow (public_in_narrow 34) (public_in_narrow 39)
+
+external_narrow : Narrow g.external
+unfolding g.external
+external_narrow = or_narrow (then_narrow (then_narrow (word_narrow (codes "SYSTEM")) (λ _. some_of_narrow _)) (λ _. literal_narrow))
+    (then_narrow (then_narrow (then_narrow (then_narrow (word_narrow (codes "PUBLIC")) (λ _. some_of_narrow _)) (λ _. public_narrow)) (λ _. some_of_narrow _)) (λ _. literal_narrow))
+
+doctype_end_narrow : Narrow g.doctype_end
+unfolding g.doctype_end
+doctype_end_narrow = or_narrow (then_narrow (then_narrow (then_narrow (some_of_narrow is_blank) (λ _. external_narrow)) (λ _. any_of_narrow is_blank)) (λ _. closing_narrow)) (then_narrow (any_of_narrow is_blank) (λ _. closing_narrow))
+
+pub doctype_strict : Strict g.doctype
+unfolding g.doctype
+doctype_strict = then_strict (then_strict (then_strict (word_strict 60 (codes "!DOCTYPE")) (λ _. some_of_narrow is_blank)) (λ _. name_narrow)) (λ _. doctype_end_narrow)
+
+version_number_narrow : Narrow g.version_number
+unfolding g.version_number
+version_number_narrow = then_narrow (word_narrow (codes "1.")) (λ _. some_of_narrow _)
+
+quoted_narrow : {A : Type 0} {R : Rule A} → Narrow R → Narrow (g.quoted R)
+quoted_narrow e = or_narrow
+    (then_narrow (then_narrow (word_narrow (34 ∷ [])) (λ _. e)) (λ a. then_narrow (word_narrow (34 ∷ [])) (λ _. gives_narrow a)))
+    (then_narrow (then_narrow (word_narrow (39 ∷ [])) (λ _. e)) (λ a. then_narrow (word_narrow (39 ∷ [])) (λ _. gives_narrow a)))
+
+version_narrow : Narrow g.version
+unfolding g.version
+version_narrow = then_narrow (then_narrow (then_narrow (some_of_narrow is_blank) (λ _. word_narrow (codes "version"))) (λ _. equals_narrow)) (λ _. quoted_narrow version_number_narrow)
+
+encoding_name_narrow : Narrow g.encoding_name
+unfolding g.encoding_name
+encoding_name_narrow = then_narrow (any_of_narrow _) (λ e. then_narrow (where_narrow _) (λ _. gives_narrow e))
+
+encoding_narrow : Narrow g.encoding
+unfolding g.encoding
+encoding_narrow = then_narrow (then_narrow (then_narrow (some_of_narrow is_blank) (λ _. word_narrow (codes "encoding"))) (λ _. equals_narrow)) (λ _. quoted_narrow encoding_name_narrow)
+
+standalone_narrow : Narrow g.standalone
+unfolding g.standalone
+standalone_narrow = then_narrow (then_narrow (then_narrow (some_of_narrow is_blank) (λ _. word_narrow (codes "standalone"))) (λ _. equals_narrow)) (λ _. quoted_narrow (or_narrow (word_narrow (codes "yes")) (word_narrow (codes "no"))))
+
+close_narrow : Narrow g.declaration_close
+unfolding g.declaration_close
+close_narrow = then_narrow (any_of_narrow is_blank) (λ _. word_narrow (codes "?>"))
+
+declaration_end_narrow : Narrow g.declaration_end
+unfolding g.declaration_end
+declaration_end_narrow = or_narrow (then_narrow standalone_narrow (λ _. close_narrow)) close_narrow
+
+pub declaration_narrow : Narrow g.declaration
+unfolding g.declaration
+declaration_narrow = then_narrow (then_narrow (word_narrow (codes "<?xml")) (λ _. version_narrow))
+    (λ _. or_narrow (then_narrow encoding_narrow (λ e. then_narrow declaration_end_narrow (λ _. gives_narrow _))) (then_narrow declaration_end_narrow (λ _. gives_narrow _)))

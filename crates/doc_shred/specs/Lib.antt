@@ -6,6 +6,7 @@ pub mod Outcomes
 pub mod Parsers
 pub mod Prolog
 pub mod Reading
+pub mod Refusals
 pub mod Rules
 pub mod Standing
 pub mod Views

@@ -11,6 +11,7 @@ mod names;
 mod pieces;
 mod prolog;
 mod references;
+mod refusal;
 mod tags;
 mod texts;
 mod values;
