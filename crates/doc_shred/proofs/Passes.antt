@@ -1,5 +1,5 @@
 -- What is in the builder after a piece, and what a walk makes of it.
-use Rattle.std.proofs.Common.{◌≡◌, ℕ, zero, suc, ◌+◌, ◌-◌, ◌<◌, ◌≤◌, ◌^◌, Bool, true, false, not, ◌||◌, ◌&&◌, cond, nat_eq, List, [], ◌∷◌, ◌++◌, map, length, Option, Some, None, Result, Ok, Err, IfOk, slice_get, option_and_then, ◌⊎◌, inl, inr, refl, sym, ap, ◌∙◌, subst, arith, true≢false, codes}
+use Rattle.std.proofs.Common.{◌≡◌, ℕ, zero, suc, ◌+◌, ◌-◌, ◌<◌, ◌≤◌, ◌^◌, Bool, true, false, not, ◌||◌, ◌&&◌, cond, nat_eq, List, [], ◌∷◌, ◌++◌, map, length, Option, Some, None, Result, Ok, Err, IfOk, IfErr, slice_get, option_and_then, ◌⊎◌, inl, inr, refl, sym, ap, ◌∙◌, subst, arith, true≢false, codes}
 use Rattle.std.specs.Str.{bytes_eq}
 use Rattle.std.proofs.lemmas.Slice.Eq.{bytes_eq-Decides}
 use Rattle.xq_base.specs.declared.item.TextId.{TextId}
@@ -21,6 +21,10 @@ use Rattle.doc_shred.proofs.Spines.{later_self, later_later, leaf_grown, last_pu
 pub if_ok : {A E : Type 0} (P Q : A → Type 0) (o : Result A E) → IfOk o P → ((a : A) → P a → Q a) → IfOk o Q
 if_ok P Q (Ok a) h k = k a h
 if_ok P Q (Err e) h k = tt
+
+pub if_err : {A E : Type 0} (P Q : E → Type 0) (o : Result A E) → IfErr o P → ((e : E) → P e → Q e) → IfErr o Q
+if_err P Q (Ok a) h k = tt
+if_err P Q (Err e) h k = k e h
 
 pub some_open : (names : List Text) (s : Spine TextId) → IsState names s → is_some_open s.nodes ≡ true
 some_open names s i = by s.nodes i.depth

@@ -133,3 +133,87 @@ module _ (text : List ℕ) (s : Spine TextId) (fresh : s ≡ opened OfDocument e
     prolog_refused later Unsupported k t = subset_is ∙ t
     prolog_refused later TooDeep k t = t
     prolog_refused later NoMemory k t = tt
+
+-- ---- the root element, and what follows it
+
+-- the steps after the prolog
+last_of : Option (w.Nodes × List ℕ) → Option w.Nodes
+last_of o = option_and_then w.at_end o
+
+miscs_of : w.Walked → w.Walked
+miscs_of o = option_and_then (λ (x : w.Nodes × List ℕ). w.miscs x.1 x.0) o
+
+roots_of : w.Walked → w.Walked
+roots_of o = option_and_then (λ (x : w.Nodes × List ℕ). w.root x.1 x.0) o
+
+steps : (text : List ℕ) → w.document text ≡ last_of (miscs_of (roots_of (w.prolog text)))
+unfolding w.document last_of miscs_of roots_of
+steps text = refl
+
+last_is : (os : w.Nodes) (bytes : List ℕ) → bytes ≡ [] → last_of (Some (os, bytes)) ≡ Some os
+unfolding last_of
+last_is os bytes e = ap (λ z. w.at_end (os, z)) e
+
+last_none : (os : w.Nodes) (bytes : List ℕ) → (bytes ≡ [] → ⊥) → last_of (Some (os, bytes)) ≡ None
+unfolding last_of
+last_none os [] h = absurd (h refl)
+last_none os (c ∷ cs) h = refl
+
+miscs_is : (os : w.Nodes) (bytes : List ℕ) → miscs_of (Some (os, bytes)) ≡ w.miscs bytes os
+unfolding miscs_of
+miscs_is os bytes = refl
+
+roots_is : (os : w.Nodes) (bytes : List ℕ) → roots_of (Some (os, bytes)) ≡ w.root bytes os
+unfolding roots_of
+roots_is os bytes = refl
+
+nothing_left : last_of (miscs_of None) ≡ None
+unfolding last_of miscs_of
+nothing_left = refl
+
+nothing_last : last_of None ≡ None
+unfolding last_of
+nothing_last = refl
+
+nothing_read : last_of (miscs_of (roots_of None)) ≡ None
+unfolding last_of miscs_of roots_of
+nothing_read = refl
+
+pub no_prolog : (text : List ℕ) (fault : ShredFault) → PrologRefused text fault → DocumentRefused text fault
+no_prolog text NotWellFormed p = (p.0, steps text ∙ ap (λ o. last_of (miscs_of (roots_of o))) p.1 ∙ nothing_read)
+no_prolog text Unsupported p = p
+no_prolog text TooDeep p = p
+no_prolog text NoMemory p = tt
+
+module _ (text : List ℕ) (texts : Texts) (one : Spine TextId) (a : List ℕ) (p : PrologRead texts one text a) where
+  pub root_has_room : (limit : ℕ) → length text + 3 < limit → rows_in one + length a + 2 < limit
+  root_has_room limit h = omega (arith, p.room)
+
+  rooted : (final : Texts) → IsLater texts final → w.document text ≡ last_of (miscs_of (w.root a (seen final one)))
+  rooted final k = steps text ∙ ap (λ o. last_of (miscs_of (roots_of o))) (p.reads final k) ∙ ap (λ o. last_of (miscs_of o)) (roots_is (seen final one) a)
+
+  pub no_root : (later : Texts) (error : Fault) → IsLater texts later → (error ≡ Malformed → NoRoot later one a) → DocumentRefused text (refusal_of error)
+  no_root later Memory k h = tt
+  no_root later Malformed k h = (p.plain, rooted later k ∙ ap (λ o. last_of (miscs_of o)) (h refl later (later_self later)) ∙ nothing_left)
+
+  module _ (second : Texts) (two : Spine TextId) (b : List ℕ) (k : IsLater texts second) (q : RootRead second one two a b) where
+    pub last_has_room : (limit : ℕ) → length text + 3 < limit → rows_in two + length b + 2 < limit
+    last_has_room limit h = omega (arith, p.room, q.room)
+
+    followed : (final : Texts) → IsLater second final → w.document text ≡ last_of (w.miscs b (seen final two))
+    followed final l =
+        rooted final (later_later texts second final k l) ∙ ap (λ o. last_of (miscs_of o)) (q.reads final l) ∙ ap last_of (miscs_is (seen final two) b)
+
+    pub no_last : (later : Texts) (error : Fault) → IsLater second later → (error ≡ Malformed → NoMiscs later two b) → DocumentRefused text (refusal_of error)
+    no_last later Memory l h = tt
+    no_last later Malformed l h = (p.plain, followed later l ∙ ap last_of (h refl later (later_self later)) ∙ nothing_last)
+
+    module _ (third : Texts) (three : Spine TextId) (c : List ℕ) (l : IsLater second third) (m : MiscsRead third two three b c) where
+      pub something_left : (c ≡ [] → ⊥) → DocumentRefused text NotWellFormed
+      something_left h = (p.plain, followed third l ∙ ap last_of (m.reads third (later_self third)) ∙ last_none (seen third three) c h)
+
+      pub document_read : c ≡ [] → DocumentRead third three text
+      document_read h = record {
+        state = m.state; plain = p.plain;
+        reads = λ final n. followed final (later_later second third final l n) ∙ ap last_of (m.reads final n) ∙ last_is (seen final three) c h;
+      }

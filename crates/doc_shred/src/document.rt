@@ -16,7 +16,7 @@ use crate::pieces::{add_comment, add_instruction, content};
 use crate::prolog::{declaration, doctype, is_known_encoding};
 use crate::refusal::{ShredFault, refusal};
 use crate::tags::start_tag;
-use doc_table::FragmentBuilder;
+use doc_table::{FragmentBuilder, Kind};
 use std::alloc::Global;
 use xq_base::Pool;
 
@@ -166,4 +166,38 @@ fn prolog<'a>(
         Ok(rest) => rest,
     };
     typed(pool, builder, rest)
+}
+
+/// Reads a whole text into an empty builder: afterwards the document is open, with its children.
+pub fn document(
+    alloc: Global,
+    pool: &mut Pool,
+    builder: &mut FragmentBuilder,
+    text: &[u8],
+) -> Result<(), ShredFault>
+    requires empty { builder.old ≡ empty_spine }
+    requires room { length text.now + 3 < 2 ^ 32 - 1 }
+    ensures later { IsLater pool.old pool.new }
+    ensures read { OnOk result (DocumentRead pool.new builder.new text.now) }
+    ensures refused { IfErr result (DocumentRefused text.now) }
+{
+    if builder.open(Kind::Document, None).is_err() {
+        return Err(ShredFault::NoMemory);
+    }
+    let rest = match prolog(pool, builder, text) {
+        Err(error) => return Err(error),
+        Ok(rest) => rest,
+    };
+    let rest = match root(alloc, pool, builder, rest) {
+        Err(error) => return Err(refusal(error)),
+        Ok(rest) => rest,
+    };
+    let rest = match miscs(pool, builder, rest) {
+        Err(error) => return Err(refusal(error)),
+        Ok(rest) => rest,
+    };
+    if !rest.is_empty() {
+        return Err(ShredFault::NotWellFormed);
+    }
+    Ok(())
 }
