@@ -2,6 +2,7 @@ pub mod AttributeLaws
 pub mod Blanks
 pub mod Complete
 pub mod Contents
+pub mod Depths
 pub mod Documents
 pub mod Exact
 pub mod Forests

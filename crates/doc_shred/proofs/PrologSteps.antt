@@ -136,6 +136,14 @@ module _ (text : List ℕ) (s : Spine TextId) (fresh : s ≡ opened OfDocument e
 
 -- ---- the root element, and what follows it
 
+pub empty_list : (xs : List ℕ) → length xs ≡ 0 → xs ≡ []
+empty_list [] e = refl
+empty_list (x ∷ xs) e = absurd (omega arith)
+
+pub filled_list : (xs : List ℕ) → 0 < length xs → xs ≡ [] → ⊥
+filled_list [] l e = omega arith
+filled_list (x ∷ xs) l e = cc
+
 -- the steps after the prolog
 last_of : Option (w.Nodes × List ℕ) → Option w.Nodes
 last_of o = option_and_then w.at_end o

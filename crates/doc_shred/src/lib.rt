@@ -3,6 +3,7 @@
 
 mod bytes;
 mod content;
+mod depth;
 mod document;
 mod fault;
 mod lines;
