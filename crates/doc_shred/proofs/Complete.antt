@@ -76,22 +76,22 @@ first_read (Branch (OfText []) f) ts from rest name names os out i e next node o
 first_read (Branch (OfText (c ∷ cs)) f) ts from rest name names os out i e next node others marked' =
     let whole : put_node (Branch (OfText (c ∷ cs)) f) os ≡ add_text (c ∷ cs) os = ap (λ (h : Forest Text). put_node (Branch (OfText (c ∷ cs)) h) os) i.1 in
     after_text from i.2.mid (c ∷ cs) name names os out i.2.first (marked_no_text ts i.2.mid rest i.2.others e)
-        (marked' i.2.mid (add_text (c ∷ cs) os) i.2.others (subst (λ z. ReadsMarked rest (name ∷ names) (put_all ts z) out) whole next))
+    (marked' i.2.mid (add_text (c ∷ cs) os) i.2.others (subst (λ z. ReadsMarked rest (name ∷ names) (put_all ts z) out) whole next))
 first_read (Branch OfDocument f) ts from rest name names os out i e next node others marked' =
     after_text from i.mid [] name names os out i.first (node_no_text (Branch OfDocument f) i.mid i.others.mid i.others.first)
-        (node i.mid i.others.mid i.others.first (others i.others.mid i.others.others))
+    (node i.mid i.others.mid i.others.first (others i.others.mid i.others.others))
 first_read (Branch (OfElement n as') f) ts from rest name names os out i e next node others marked' =
     after_text from i.mid [] name names os out i.first (node_no_text (Branch (OfElement n as') f) i.mid i.others.mid i.others.first)
-        (node i.mid i.others.mid i.others.first (others i.others.mid i.others.others))
+    (node i.mid i.others.mid i.others.first (others i.others.mid i.others.others))
 first_read (Branch (OfAttribute n v) f) ts from rest name names os out i e next node others marked' =
     after_text from i.mid [] name names os out i.first (node_no_text (Branch (OfAttribute n v) f) i.mid i.others.mid i.others.first)
-        (node i.mid i.others.mid i.others.first (others i.others.mid i.others.others))
+    (node i.mid i.others.mid i.others.first (others i.others.mid i.others.others))
 first_read (Branch (OfComment v) f) ts from rest name names os out i e next node others marked' =
     after_text from i.mid [] name names os out i.first (node_no_text (Branch (OfComment v) f) i.mid i.others.mid i.others.first)
-        (node i.mid i.others.mid i.others.first (others i.others.mid i.others.others))
+    (node i.mid i.others.mid i.others.first (others i.others.mid i.others.others))
 first_read (Branch (OfInstruction n v) f) ts from rest name names os out i e next node others marked' =
     after_text from i.mid [] name names os out i.first (node_no_text (Branch (OfInstruction n v) f) i.mid i.others.mid i.others.first)
-        (node i.mid i.others.mid i.others.first (others i.others.mid i.others.others))
+    (node i.mid i.others.mid i.others.first (others i.others.mid i.others.others))
 
 mutual
   node_read : (t : Tree Text) (from rest : List ℕ) (name : Text) (names : List Text) (os : Nodes) (out : Walked) → IsNode t from rest
@@ -103,9 +103,9 @@ mutual
   node_read (Branch (OfElement n as') f) from rest name names os out (inr i) next = λ k l.
       ap (option_and_then (λ (x : Piece × List ℕ). step x.0 (content k x.1) (name ∷ names) os)) (read_start from i.inside _ i.opened)
       ∙ content_read f i.inside i.after n (name ∷ names) (open_node (OfElement n as') os) out i.content (end_no_text i.after rest n i.closed)
-          (end_read i.after rest n (name ∷ names) (put_all f (open_node (OfElement n as') os)) out i.closed
-              (subst (λ z. Reads rest (name ∷ names) z out) (sym (close-put_all f (OfElement n as') os)) next))
-          k (omega (arith, start_strict from i.inside _ i.opened))
+      (end_read i.after rest n (name ∷ names) (put_all f (open_node (OfElement n as') os)) out i.closed
+      (subst (λ z. Reads rest (name ∷ names) z out) (sym (close-put_all f (OfElement n as') os)) next))
+      k (omega (arith, start_strict from i.inside _ i.opened))
   node_read (Branch (OfAttribute n v) f) from rest name names os out i next = absurd i
   node_read (Branch (OfText v) f) from rest name names os out i next = absurd i
   node_read (Branch (OfComment v) f) from rest name names os out i next = λ k l.
@@ -139,9 +139,9 @@ root_read n as' f from rest os (inl i) =
 root_read n as' f from rest os (inr i) =
     ap (option_and_then (λ (x : g.Tag × List ℕ). step (starts x.0) (content (length x.1 + 1) x.1) [] os)) (start_exact.complete from i.inside _ i.opened)
     ∙ content_read f i.inside i.after n [] (open_node (OfElement n as') os) (Some (put_node (Branch (OfElement n as') f) os, rest)) i.content (end_no_text i.after rest n i.closed)
-        (end_read i.after rest n [] (put_all f (open_node (OfElement n as') os)) (Some (put_node (Branch (OfElement n as') f) os, rest)) i.closed
-            (λ k h. ends_at k rest (close_node (put_all f (open_node (OfElement n as') os))) h ∙ ap (λ z. Some (z, rest)) (close-put_all f (OfElement n as') os)))
-        (length i.inside + 1) (omega arith)
+    (end_read i.after rest n [] (put_all f (open_node (OfElement n as') os)) (Some (put_node (Branch (OfElement n as') f) os, rest)) i.closed
+    (λ k h. ends_at k rest (close_node (put_all f (open_node (OfElement n as') os))) h ∙ ap (λ z. Some (z, rest)) (close-put_all f (OfElement n as') os)))
+    (length i.inside + 1) (omega arith)
 
 -- where there are characters, what is left is shorter
 pub text_run_strict : (from rest v : List ℕ) (c : ℕ) (cs : List ℕ) → g.text_run from rest v → v ≡ c ∷ cs → length rest < length from

@@ -18,7 +18,11 @@ pub record IsWalking (before texts : Texts) (names here : List Text) (old now : 
 
 pub walk_begins : (texts : Texts) (names : List Text) (old : Spine TextId) (bytes : List ℕ) → IsState names old → text_last old.nodes ≡ false → IsWalking texts texts names names old old (length bytes + 1 - 0) bytes bytes
 walk_begins texts names old bytes i e = record {
-  later = later_self texts; state = i; room = omega arith; fewer = omega arith; calm = e;
+  later = later_self texts;
+  state = i;
+  room = omega arith;
+  fewer = omega arith;
+  calm = e;
   reads = λ final k. let n : length bytes + 1 - 0 ≡ length bytes + 1 = omega arith in ap (λ z. content z bytes names (seen final old)) n;
 }
 

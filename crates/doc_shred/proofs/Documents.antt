@@ -65,10 +65,12 @@ miscs_sound zero from os y e = cc
 miscs_sound (suc n) from os y e = chosen (has_misc from) _ _ (Some y) (AreMiscs os from y) e
     (λ h k.
     let b = bound (λ (x : List (Tree Text) × List ℕ). miscs_from n x.1 (put_list x.0 os)) (r.misc from) y k in
-    let i = miscs_sound n b.0.1 (put_list b.0.0 os) y b.2 in
-    (b.0.0 ++ i.0,
-        record { part = b.0.0 ∷ i.1.part; mid = i.1.mid; first = IsMany.more (misc_exact.sound from b.0 b.1) i.1.first; second = (i.1.second.0, ap (λ z. b.0.0 ++ z) i.1.second.1) },
-        i.2 ∙ sym (put_list-append b.0.0 i.0 os), i.3))
+    let i = miscs_sound n b.0.1 (put_list b.0.0 os) y b.2 in (
+      b.0.0 ++ i.0,
+      record { part = b.0.0 ∷ i.1.part; mid = i.1.mid; first = IsMany.more (misc_exact.sound from b.0 b.1) i.1.first; second = (i.1.second.0, ap (λ z. b.0.0 ++ z) i.1.second.1) },
+      i.2 ∙ sym (put_list-append b.0.0 i.0 os),
+      i.3,
+    ))
     (λ h k.
     let P : Nodes × List ℕ → Type 0 = λ z. AreMiscs os from z in
     subst P (same_Some (os, from) y k) ([], record { part = []; mid = from; first = IsMany.none; second = (refl, refl) }, refl, h))
@@ -201,10 +203,10 @@ typed_sound from os y e = chosen (begins (codes "<!DOCTYPE") from) _ _ (Some y) 
     (λ h k.
     let b = bound (w.after_doctype os) (r.doctype from) y k in
     chosen (nat_eq b.0.0 62) _ _ (Some y) (IsTyped os from y) b.2
-        (λ g l.
-        let i = miscs_sound (length b.0.1 + 1) b.0.1 os y l in
-        (i.0, inl (record { part = b.0.0; mid = b.0.1; first = doctype_exact.sound from b.0 b.1; second = record { part = tt {0}; mid = b.0.1; first = (refl, g); second = i.1 } }), i.2))
-        (λ g l. cc))
+    (λ g l.
+    let i = miscs_sound (length b.0.1 + 1) b.0.1 os y l in
+    (i.0, inl (record { part = b.0.0; mid = b.0.1; first = doctype_exact.sound from b.0 b.1; second = record { part = tt {0}; mid = b.0.1; first = (refl, g); second = i.1 } }), i.2))
+    (λ g l. cc))
     (λ h k.
     let P : Nodes × List ℕ → Type 0 = λ z. IsTyped os from z in
     subst P (same_Some (os, from) y k) ([], inr (refl, refl), refl))
@@ -273,7 +275,7 @@ document_complete text kids i =
     let os3 : Nodes = put_node q.part os2 in
     let os4 : Nodes = put_list l.part os3 in
     let one : w.miscs (w.head text).1 w.new_document ≡ Some (os1, i.mid) =
-        ap (λ z. w.miscs z w.new_document) headed ∙ miscs_read i.first.mid i.mid i.part w.new_document i.first.second (typed_no_misc i.mid t.mid t.part t.first no_misc) in
+    ap (λ z. w.miscs z w.new_document) headed ∙ miscs_read i.first.mid i.mid i.part w.new_document i.first.second (typed_no_misc i.mid t.mid t.part t.first no_misc) in
     let two : w.typed i.mid os1 ≡ Some (os2, t.mid) = typed_read i.mid t.mid t.part os1 t.first no_misc (root_no_doctype t.mid q.mid q.part q.first) in
     let three : w.root t.mid os2 ≡ Some (os3, q.mid) = root_is_read t.mid q.mid q.part os2 q.first in
     let four : w.miscs q.mid os3 ≡ Some (os4, l.mid) = miscs_read q.mid l.mid l.part os3 l.first (ap has_misc l.second.0) in
@@ -299,20 +301,26 @@ document_sound text os e =
     let element = root_sound (record { label = OfDocument; done = first.0 ++ second.0 }) b2.0.1 b3.0 read in
     let node : Tree Text = Branch (OfElement element.name element.attributes) element.kids in
     let last = miscs_sound (length b3.0.1 + 1) b3.0.1 b3.0.0 b4.0 b3.2 in
-    let shut = ended b4.0 os b4.2 in
-    (first.0 ++ (second.0 ++ (node ∷ last.0)),
-        sym shut.1 ∙ last.2 ∙ ap (put_list last.0) element.given ∙ put_list_is last.0 ((first.0 ++ second.0) ++ node ∷ []) ∙ ap document_with (regroup first.0 second.0 last.0 node),
-        record {
-          part = first.0; mid = b1.0.1;
-          first = record { part = tt {0}; mid = (w.head text).1; first = head_sound text; second = first.1 };
+    let shut = ended b4.0 os b4.2 in (
+      first.0 ++ (second.0 ++ (node ∷ last.0)),
+      sym shut.1 ∙ last.2 ∙ ap (put_list last.0) element.given ∙ put_list_is last.0 ((first.0 ++ second.0) ++ node ∷ []) ∙ ap document_with (regroup first.0 second.0 last.0 node),
+      record {
+        part = first.0;
+        mid = b1.0.1;
+        first = record { part = tt {0}; mid = (w.head text).1; first = head_sound text; second = first.1 };
+        second = record {
+          part = second.0;
+          mid = b2.0.1;
+          first = second.1;
           second = record {
-            part = second.0; mid = b2.0.1; first = second.1;
-            second = record {
-              part = node; mid = b3.0.1; first = element.node;
-              second = record { part = last.0; mid = b4.0.1; first = last.1; second = (shut.0, refl) };
-            };
+            part = node;
+            mid = b3.0.1;
+            first = element.node;
+            second = record { part = last.0; mid = b4.0.1; first = last.1; second = (shut.0, refl) };
           };
-        })
+        };
+      },
+    )
 
 -- ---- what isn't read
 
@@ -326,12 +334,15 @@ subset_sound text e = by (w.miscs (w.head text).1 w.new_document) refl e
     inner : (x : Nodes × List ℕ) → w.miscs (w.head text).1 w.new_document ≡ Some x → (o : Option (ℕ × List ℕ)) → r.doctype x.1 ≡ o → w.comes_to_subset o ≡ true → Subset
     inner x f None g e = cc
     inner x f (Some y) g e =
-        let i = miscs_sound (length (w.head text).1 + 1) (w.head text).1 w.new_document x f in
-        (y.1, record {
-          part = y.0; mid = y.1;
-          first = record { part = i.0; mid = x.1; first = record { part = tt {0}; mid = (w.head text).1; first = head_sound text; second = i.1 }; second = doctype_exact.sound x.1 y g };
-          second = (refl, e);
-        })
+        let i = miscs_sound (length (w.head text).1 + 1) (w.head text).1 w.new_document x f in (
+          y.1,
+          record {
+            part = y.0;
+            mid = y.1;
+            first = record { part = i.0; mid = x.1; first = record { part = tt {0}; mid = (w.head text).1; first = head_sound text; second = i.1 }; second = doctype_exact.sound x.1 y g };
+            second = (refl, e);
+          },
+        )
 
     by : (o : Walked) → w.miscs (w.head text).1 w.new_document ≡ o → w.has_subset o ≡ true → Subset
     by None f e = cc

@@ -52,9 +52,11 @@ module _ (quote : ℕ) (text : List ℕ) (m i : ℕ) (from : List ℕ) (all : �
 
   pub value_goes_on : (new rest : List ℕ) → r.goes_on quote from ≡ true → fronted text (r.value_part quote from) ≡ Some (new, rest) → Gathers (r.value_from quote) new (m - (i + 1)) rest all first
   value_goes_on new rest e p =
-      let a = added text new rest (r.value_part quote from) p in
-      (g.0 ++ a.0 ∷ [], joined-push g.0 a.0 ∙ ap (λ z. z ++ a.0) g.1 ∙ sym a.2,
-          sym (value_turn quote g.0 (m - (i + 1)) from rest a.0 e a.1) ∙ ap (λ z. r.value_from quote g.0 z from) (sym left) ∙ g.2)
+      let a = added text new rest (r.value_part quote from) p in (
+        g.0 ++ a.0 ∷ [],
+        joined-push g.0 a.0 ∙ ap (λ z. z ++ a.0) g.1 ∙ sym a.2,
+        sym (value_turn quote g.0 (m - (i + 1)) from rest a.0 e a.1) ∙ ap (λ z. r.value_from quote g.0 z from) (sym left) ∙ g.2,
+      )
 
   pub value_refused : r.goes_on quote from ≡ true → fronted text (r.value_part quote from) ≡ None → r.value_from quote [] all first ≡ None
   value_refused e p = sym g.2 ∙ ap (λ z. r.value_from quote g.0 z from) left ∙ value_failed quote g.0 (m - (i + 1)) from e (not_added text (r.value_part quote from) p)
@@ -95,9 +97,11 @@ module _ (text : List ℕ) (m i : ℕ) (from : List ℕ) (all : ℕ) (first : Li
 
   pub text_goes_on : (new rest : List ℕ) → r.has_text from ≡ true → fronted text (r.text_part from) ≡ Some (new, rest) → Gathers r.text_from new (m - (i + 1)) rest all first
   text_goes_on new rest e p =
-      let a = added text new rest (r.text_part from) p in
-      (g.0 ++ a.0 ∷ [], joined-push g.0 a.0 ∙ ap (λ z. z ++ a.0) g.1 ∙ sym a.2,
-          sym (text_turn g.0 (m - (i + 1)) from rest a.0 e a.1) ∙ ap (λ z. r.text_from g.0 z from) (sym text_left) ∙ g.2)
+      let a = added text new rest (r.text_part from) p in (
+        g.0 ++ a.0 ∷ [],
+        joined-push g.0 a.0 ∙ ap (λ z. z ++ a.0) g.1 ∙ sym a.2,
+        sym (text_turn g.0 (m - (i + 1)) from rest a.0 e a.1) ∙ ap (λ z. r.text_from g.0 z from) (sym text_left) ∙ g.2,
+      )
 
   pub text_refused : r.has_text from ≡ true → fronted text (r.text_part from) ≡ None → r.text_from [] all first ≡ None
   text_refused e p = sym g.2 ∙ ap (λ z. r.text_from g.0 z from) text_left ∙ text_failed g.0 (m - (i + 1)) from e (not_added text (r.text_part from) p)

@@ -67,10 +67,10 @@ entity_exact =
     (or_exact (begins (codes "lt;")) (row (codes "lt;") (codes "<"))
     (or_exact (begins (codes "gt;")) (row (codes "gt;") (codes ">"))
     (or_exact (begins (codes "quot;")) (row (codes "quot;") (34 ∷ [])) (row (codes "apos;") (codes "'"))
-        (row_begins (codes "quot;") _) (λ from rest a i. ap (begins (codes "quot;")) i.first))
-        (row_begins (codes "gt;") _) gt_alone)
-        (row_begins (codes "lt;") _) lt_alone)
-        (row_begins (codes "amp;") _) amp_alone
+    (row_begins (codes "quot;") _) (λ from rest a i. ap (begins (codes "quot;")) i.first))
+    (row_begins (codes "gt;") _) gt_alone)
+    (row_begins (codes "lt;") _) lt_alone)
+    (row_begins (codes "amp;") _) amp_alone
   where
     gt_alone : (from rest a : List ℕ) → (word (codes "quot;") ▷ gives (34 ∷ []) or word (codes "apos;") ▷ gives (codes "'")) from rest a → begins (codes "gt;") from ≡ false
     gt_alone from rest a (inl i) = ap (begins (codes "gt;")) i.first

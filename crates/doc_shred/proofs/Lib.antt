@@ -22,3 +22,4 @@ pub mod Spelled
 pub mod Spines
 pub mod StartLaws
 pub mod TagLaws
+pub mod Whole

@@ -35,10 +35,14 @@ misc_instruction bytes e f = rw e (rw f refl)
 pub space_added : (texts : Texts) (old : Spine TextId) (bytes rest : List ℕ) → IsState [] old → starts is_blank bytes ≡ true → rest ≡ after_run is_blank bytes → MiscAdded texts old old bytes rest
 space_added texts old bytes rest i e f =
     let shorter : length (after_run is_blank bytes) < length bytes = some_of_strict is_blank bytes (after_run is_blank bytes) (run is_blank bytes)
-        ((some_of_exact is_blank).sound bytes (run is_blank bytes, after_run is_blank bytes) (ap (λ b. cond b (Some (run is_blank bytes, after_run is_blank bytes)) None) e)) in
+    ((some_of_exact is_blank).sound bytes (run is_blank bytes, after_run is_blank bytes) (ap (λ b. cond b (Some (run is_blank bytes, after_run is_blank bytes)) None) e)) in
     record {
-      state = i; room = omega (arith, shorter, ap length f); fewer = omega (arith, shorter, ap length f); read = [];
-      found = misc_space bytes e ∙ ap (λ z. Some ([], z)) (sym f); added = λ final k. refl;
+      state = i;
+      room = omega (arith, shorter, ap length f);
+      fewer = omega (arith, shorter, ap length f);
+      read = [];
+      found = misc_space bytes e ∙ ap (λ z. Some ([], z)) (sym f);
+      added = λ final k. refl;
     }
 
 module _ (texts : Texts) (old new : Spine TextId) (bytes rest : List ℕ) (i : IsState [] old) (e : starts is_blank bytes ≡ false) where
@@ -48,7 +52,8 @@ module _ (texts : Texts) (old new : Spine TextId) (bytes rest : List ℕ) (i : I
       let g = leaf_grown (OfComment a.value) old (some_open [] old i) i.root in
       record {
         state = subst (IsState []) (sym a.added) (leaf_state [] (OfComment a.value) old i);
-        room = omega (arith, ap rows_in a.added, g.rows, shorter); fewer = shorter;
+        room = omega (arith, ap rows_in a.added, g.rows, shorter);
+        fewer = shorter;
         read = Branch (OfComment a.read) no_more ∷ [];
         found = misc_comment bytes e f ∙ ap (option_and_then (λ (x : Text × List ℕ). Some (Branch (OfComment x.0) no_more ∷ [], x.1))) a.found;
         added = λ final k. comment_seen texts final old new a.value a.read a.added a.valued k;
@@ -60,7 +65,8 @@ module _ (texts : Texts) (old new : Spine TextId) (bytes rest : List ℕ) (i : I
       let g = leaf_grown (OfInstruction a.name a.value) old (some_open [] old i) i.root in
       record {
         state = subst (IsState []) (sym a.added) (leaf_state [] (OfInstruction a.name a.value) old i);
-        room = omega (arith, ap rows_in a.added, g.rows, shorter); fewer = shorter;
+        room = omega (arith, ap rows_in a.added, g.rows, shorter);
+        fewer = shorter;
         read = Branch (OfInstruction a.read.0 a.read.1) no_more ∷ [];
         found = misc_instruction bytes e f ∙ ap (option_and_then (λ (x : (Text × Text) × List ℕ). Some (Branch (OfInstruction x.0.0 x.0.1) no_more ∷ [], x.1))) a.found;
         added = λ final k. instruction_seen texts texts final old new a.name a.value a.read.0 a.read.1 a.added a.named (later_self texts) a.valued k;
@@ -83,7 +89,10 @@ pub record IsAmong (before texts : Texts) (old now : Spine TextId) (turns : ℕ)
 
 pub among_begins : (texts : Texts) (old : Spine TextId) (bytes : List ℕ) → IsState [] old → IsAmong texts texts old old (length bytes + 1 - 0) bytes bytes
 among_begins texts old bytes i = record {
-  later = later_self texts; state = i; room = omega arith; fewer = omega arith;
+  later = later_self texts;
+  state = i;
+  room = omega arith;
+  fewer = omega arith;
   reads = λ final k. let n : length bytes + 1 - 0 ≡ length bytes + 1 = omega arith in ap (λ z. miscs_from z bytes (seen final old)) n;
 }
 
@@ -123,7 +132,9 @@ module _ (before texts : Texts) (old now : Spine TextId) (m i : ℕ) (bytes rest
 
   pub among_ends : has_misc rest ≡ false → MiscsRead texts old now bytes rest
   among_ends e = record {
-    state = s.state; room = s.room; fewer = s.fewer;
+    state = s.state;
+    room = s.room;
+    fewer = s.fewer;
     reads = λ final k. sym (s.reads final k) ∙ ap (λ z. miscs_from z rest (seen final now)) among_left ∙ misc_end (m - (i + 1)) rest (seen final now) e;
   }
 

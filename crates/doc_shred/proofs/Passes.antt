@@ -78,11 +78,12 @@ closed_state name names s i =
     by (o ∷ []) f e t = absurd (omega arith)
     by (o ∷ q ∷ os) f e t =
         let shut : closed s ≡ put_in (tree_of o) s.root (q ∷ os) = ap (Rattle.doc_table.specs.Spine.close_in s.root) f in
-        let parts = both (is_text o.label) (not (is_text q.label) && none_text os) t in
-        (ap (λ (z : Spine TextId). z.root) shut ∙ i.root,
-            ap (λ (z : Spine TextId). length z.nodes) shut ∙ count (length os) e,
-            ap (λ (z : Spine TextId). none_text z.nodes) shut ∙ parts.1,
-            ap (λ (z : Spine TextId). text_last z.nodes) shut ∙ last_put (tree_of o) s.root (q ∷ os) parts.0)
+        let parts = both (is_text o.label) (not (is_text q.label) && none_text os) t in (
+          ap (λ (z : Spine TextId). z.root) shut ∙ i.root,
+          ap (λ (z : Spine TextId). length z.nodes) shut ∙ count (length os) e,
+          ap (λ (z : Spine TextId). none_text z.nodes) shut ∙ parts.1,
+          ap (λ (z : Spine TextId). text_last z.nodes) shut ∙ last_put (tree_of o) s.root (q ∷ os) parts.0,
+        )
       where
         both : (a b : Bool) → not a && b ≡ true → (a ≡ false) × (b ≡ true)
         both true b e = cc

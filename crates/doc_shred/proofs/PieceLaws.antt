@@ -49,10 +49,10 @@ piece_exact =
     or_exact (begins (codes "</")) (then_exact end_tag_exact (λ n. give_exact))
     (or_exact (begins (codes "<!--")) (then_exact comment_exact (λ v. give_exact))
     (or_exact (begins (codes "<?")) (then_exact instruction_exact (λ i. give_exact)) (then_exact start_exact (λ t. give_exact))
-        (λ from rest a i. let s = instruction_begins from i.mid i.part i.first in ap (begins (codes "<?")) s.1)
-        (λ from rest a i. start_apart 63 [] from i.mid i.part question_no_name i.first))
-        (λ from rest a i. let s = comment_begins from i.mid i.part i.first in ap (begins (codes "<!--")) s.1) no_comment)
-        (λ from rest a i. let s = end_tag_begins from i.mid i.part i.first in ap (begins (codes "</")) s.1) no_end
+    (λ from rest a i. let s = instruction_begins from i.mid i.part i.first in ap (begins (codes "<?")) s.1)
+    (λ from rest a i. start_apart 63 [] from i.mid i.part question_no_name i.first))
+    (λ from rest a i. let s = comment_begins from i.mid i.part i.first in ap (begins (codes "<!--")) s.1) no_comment)
+    (λ from rest a i. let s = end_tag_begins from i.mid i.part i.first in ap (begins (codes "</")) s.1) no_end
   where
     no_comment : (from rest : List ℕ) (a : w.Piece) → (g.instruction ▷= (λ i. gives (w.instructs i.0 i.1)) or g.start ▷= λ t. gives (w.starts t)) from rest a → begins (codes "<!--") from ≡ false
     no_comment from rest a (inl i) = let s = instruction_begins from i.mid i.part i.first in ap (begins (codes "<!--")) s.1

@@ -34,7 +34,10 @@ no_doctype bytes e = rw (none_stripped (codes "<!DOCTYPE") bytes e) refl
 
 pub untyped : (texts : Texts) (s : Spine TextId) (bytes : List ℕ) → IsState [] s → begins (codes "<!DOCTYPE") bytes ≡ false → TypeRead texts s s bytes bytes
 untyped texts s bytes i e = record {
-  state = i; room = omega arith; fewer = omega arith; plain = ap w.comes_to_subset (no_doctype bytes e);
+  state = i;
+  room = omega arith;
+  fewer = omega arith;
+  plain = ap w.comes_to_subset (no_doctype bytes e);
   reads = λ final k. ap (λ b. cond b (option_and_then (w.after_doctype (seen final s)) (r.doctype bytes)) (Some (seen final s, bytes))) e;
 }
 
@@ -68,7 +71,9 @@ module _ (texts : Texts) (s : Spine TextId) (bytes : List ℕ) (e : begins (code
 
       pub doctype_read : (later : Texts) (new : Spine TextId) (last : List ℕ) → MiscsRead later s new rest last → TypeRead later s new bytes last
       doctype_read later new last m = record {
-        state = m.state; room = omega (arith, m.room, shorter); fewer = omega (arith, m.fewer, shorter);
+        state = m.state;
+        room = omega (arith, m.room, shorter);
+        fewer = omega (arith, m.fewer, shorter);
         plain = ap w.comes_to_subset f ∙ g;
         reads = λ final k. after final ∙ m.reads final k;
       }
@@ -222,6 +227,7 @@ module _ (text : List ℕ) (texts : Texts) (one : Spine TextId) (a : List ℕ) (
 
       pub document_read : c ≡ [] → DocumentRead third three text
       document_read h = record {
-        state = m.state; plain = p.plain;
+        state = m.state;
+        plain = p.plain;
         reads = λ final n. followed final (later_later second third final l n) ∙ ap last_of (m.reads final n) ∙ last_is (seen final three) c h;
       }

@@ -77,8 +77,8 @@ pub declaration_exact : Exact g.declaration r.declaration
 unfolding g.declaration r.declaration
 declaration_exact = after_exact (after_exact (word_exact (codes "<?xml")) version_exact)
     (or_exact (r.begins_after (codes "encoding")) (then_exact encoding_exact (λ e. after_exact declaration_end_exact give_exact)) (after_exact declaration_end_exact give_exact)
-        (λ from rest a i. let s = encoding_begins from i.mid i.part i.first in ap (begins (codes "encoding")) s.1 ∙ begins_front (codes "encoding") s.0)
-        (λ from rest a i. end_apart from i.mid i.part i.first))
+    (λ from rest a i. let s = encoding_begins from i.mid i.part i.first in ap (begins (codes "encoding")) s.1 ∙ begins_front (codes "encoding") s.0)
+    (λ from rest a i. end_apart from i.mid i.part i.first))
 
 -- ---- document type declarations
 
@@ -154,8 +154,8 @@ pub misc_exact : Exact g.misc r.misc
 unfolding g.misc r.misc
 misc_exact = or_exact (starts is_blank) (after_exact (some_of_exact is_blank) give_exact)
     (or_exact (begins (codes "<!--")) (then_exact comment_exact (λ v. give_exact)) (then_exact instruction_exact (λ i. give_exact))
-        (λ from rest a i. let s = comment_begins from i.mid i.part i.first in ap (begins (codes "<!--")) s.1)
-        (λ from rest a i. let s = instruction_begins from i.mid i.part i.first in ap (begins (codes "<!--")) s.1))
+    (λ from rest a i. let s = comment_begins from i.mid i.part i.first in ap (begins (codes "<!--")) s.1)
+    (λ from rest a i. let s = instruction_begins from i.mid i.part i.first in ap (begins (codes "<!--")) s.1))
     (λ from rest a i. i.first.0) marked_no_blank
   where
     marked_no_blank : (from rest : List ℕ) (a : List (Tree (List ℕ))) → (m.comment ▷= (λ v. gives (Branch (OfComment v) no_more ∷ [])) or m.instruction ▷= λ i. gives (Branch (OfInstruction i.0 i.1) no_more ∷ [])) from rest a → starts is_blank from ≡ false

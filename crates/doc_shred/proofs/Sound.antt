@@ -43,7 +43,7 @@ mutual
   run_content : {ts : List (Tree Text)} {from here : List ℕ} → IsRunPrefix ts from here → (f : Forest Text) (rest : List ℕ) → AreMarked f here rest → IsContent (onto ts f) from rest
   run_content (IsRunPrefix.run {from = from} {mid = mid} {here = here} ts v before i) f rest m =
       subst (λ h. IsContent h from rest) (sym (onto-append ts (text_list v) f ∙ ap (onto ts) (onto-text_list v f)))
-          (prefix_content before (text_onto v f) rest (text_first v f mid here rest i m))
+      (prefix_content before (text_onto v f) rest (text_first v f mid here rest i m))
 
 -- the tag that opened an element
 abbrev OpenTag : Label Text → List ℕ → List ℕ → Type 0
@@ -137,15 +137,15 @@ one_step : (n : ℕ) (base : Open Text) (start : List ℕ) (y : Nodes × List �
     → OuterAt (o ∷ os) start mid → IsPiece p mid rest → IsRoot base start y
 one_step n base start y goes (starts t) o os mid rest e i p = chosen t.is_empty _ _ (Some y) (IsRoot base start y) e
     (λ h k. goes (with_child (Branch (OfElement t.name t.attributes) no_more) o) os rest k
-        (record { at = i.at; inside = i.inside; outer = i.outer; tag = i.tag; so_far = IsPrefix.put o.done _ i.so_far (inl (tag_is t mid rest true p h, refl)) }))
+    (record { at = i.at; inside = i.inside; outer = i.outer; tag = i.tag; so_far = IsPrefix.put o.done _ i.so_far (inl (tag_is t mid rest true p h, refl)) }))
     (λ h k. goes (record { label = OfElement t.name t.attributes; done = [] }) (o ∷ os) rest k
-        (record { at = mid; inside = rest; outer = i; tag = tag_is t mid rest false p h; so_far = IsPrefix.nothing }))
+    (record { at = mid; inside = rest; outer = i; tag = tag_is t mid rest false p h; so_far = IsPrefix.nothing }))
 one_step n base start y goes (notes v) o os mid rest e i p =
     goes (with_child (Branch (OfComment v) no_more) o) os rest e
-        (record { at = i.at; inside = i.inside; outer = i.outer; tag = i.tag; so_far = IsPrefix.put o.done _ i.so_far (p, refl) })
+    (record { at = i.at; inside = i.inside; outer = i.outer; tag = i.tag; so_far = IsPrefix.put o.done _ i.so_far (p, refl) })
 one_step n base start y goes (instructs m v) o os mid rest e i p =
     goes (with_child (Branch (OfInstruction m v) no_more) o) os rest e
-        (record { at = i.at; inside = i.inside; outer = i.outer; tag = i.tag; so_far = IsPrefix.put o.done _ i.so_far (p, refl) })
+    (record { at = i.at; inside = i.inside; outer = i.outer; tag = i.tag; so_far = IsPrefix.put o.done _ i.so_far (p, refl) })
 one_step n base start y goes (ends m) o os mid rest e i p = chosen (bytes_eq m (name_in o.label)) _ _ (Some y) (IsRoot base start y) e
     (λ h k.
     let same : m ≡ name_in o.label = (bytes_eq-Decides m (name_in o.label)).0 h in
@@ -159,7 +159,7 @@ one_step n base start y goes (ends m) o os mid rest e i p = chosen (bytes_eq m (
         root_closed n o.label o.done base start rest y i.inside (subst (λ z. OpenTag o.label z i.inside) (sym outer) i.tag) (subst (λ z. IsNode (Branch o.label (forest_of o.done)) z rest) (sym outer) node) k
     by (q ∷ qs) outer node k =
         goes (with_child (Branch o.label (forest_of o.done)) q) qs rest k
-            (record { at = outer.at; inside = outer.inside; outer = outer.outer; tag = outer.tag; so_far = IsPrefix.put q.done _ outer.so_far node })
+        (record { at = outer.at; inside = outer.inside; outer = outer.outer; tag = outer.tag; so_far = IsPrefix.put q.done _ outer.so_far node })
 
 pub content_sound : (n : ℕ) (base : Open Text) (start : List ℕ) (y : Nodes × List ℕ) → Goes n base start y
 unfolding content
@@ -170,7 +170,7 @@ content_sound (suc n) base start y o os here e i =
     let c = bound (λ (x : Piece × List ℕ). step x.0 (content n x.1) (names_of (o ∷ os)) (add_text b.0.0 (o ∷ (os ++ base ∷ [])))) (piece b.0.1) y b.2 in
     let stepped : step c.0.0 (content n c.0.1) (names_of (o ∷ os)) (with_text b.0.0 o ∷ (os ++ base ∷ [])) ≡ Some y = ap (step c.0.0 (content n c.0.1) (names_of (o ∷ os))) (sym (text_added b.0.0 o (os ++ base ∷ []))) ∙ c.2 in
     one_step n base start y (content_sound n base start y) c.0.0 (with_text b.0.0 o) os b.0.1 c.0.1 stepped
-        (record { at = i.at; inside = i.inside; outer = i.outer; tag = i.tag; so_far = IsRunPrefix.run o.done b.0.0 i.so_far run.0 }) (piece_sound b.0.1 c.0 c.1)
+    (record { at = i.at; inside = i.inside; outer = i.outer; tag = i.tag; so_far = IsRunPrefix.run o.done b.0.0 i.so_far run.0 }) (piece_sound b.0.1 c.0 c.1)
 
 -- what is read as the root element is one
 pub root_sound : (base : Open Text) (from : List ℕ) (y : Nodes × List ℕ) → root from (base ∷ []) ≡ Some y → IsRoot base from y
@@ -180,9 +180,9 @@ root_sound base from y e =
     let n : ℕ = length b.0.1 + 1 in
     let t = start_exact.sound from b.0 b.1 in
     chosen b.0.0.is_empty _ _ (Some y) (IsRoot base from y) b.2
-        (λ h k. ended n b.0.0.name b.0.0.attributes b.0.1 (tag_is b.0.0 from b.0.1 true t h) k)
-        (λ h k. content_sound n base from y (record { label = OfElement b.0.0.name b.0.0.attributes; done = [] }) [] b.0.1 k
-            (record { at = from; inside = b.0.1; outer = refl; tag = tag_is b.0.0 from b.0.1 false t h; so_far = IsPrefix.nothing }))
+    (λ h k. ended n b.0.0.name b.0.0.attributes b.0.1 (tag_is b.0.0 from b.0.1 true t h) k)
+    (λ h k. content_sound n base from y (record { label = OfElement b.0.0.name b.0.0.attributes; done = [] }) [] b.0.1 k
+    (record { at = from; inside = b.0.1; outer = refl; tag = tag_is b.0.0 from b.0.1 false t h; so_far = IsPrefix.nothing }))
   where
     ended : (n : ℕ) (m : Text) (as' : List (Text × Text)) (rest : List ℕ) → g.start from rest (record { name = m; attributes = as'; is_empty = true })
         → content n rest [] (leaf (OfElement m as') (base ∷ [])) ≡ Some y → IsRoot base from y

@@ -88,8 +88,8 @@ unfolding w.attributes_from
 both_readings n zero found from e = refl
 both_readings n (suc k) found from e =
     by (r.has_attribute from) (r.attribute from)
-        (λ a rest h. both_readings n k (found ++ a ∷ []) rest (differ_push found a ∙ ap (λ b. b && not (is_named bytes_eq a.0 found)) e ∙ ap not h))
-        (λ a rest h. never n k (found ++ a ∷ []) rest (differ_push found a ∙ ap (λ b. b && not (is_named bytes_eq a.0 found)) e ∙ ap not h))
+    (λ a rest h. both_readings n k (found ++ a ∷ []) rest (differ_push found a ∙ ap (λ b. b && not (is_named bytes_eq a.0 found)) e ∙ ap not h))
+    (λ a rest h. never n k (found ++ a ∷ []) rest (differ_push found a ∙ ap (λ b. b && not (is_named bytes_eq a.0 found)) e ∙ ap not h))
   where
     one : (x : (Text × Text) × List ℕ) (b : Bool) → is_named bytes_eq x.0.0 found ≡ b
         → (is_named bytes_eq x.0.0 found ≡ false → repeat r.has_attribute r.attribute (finish n) (found ++ x.0 ∷ []) k x.1 ≡ option_and_then (close_tag n) (w.attributes_from (found ++ x.0 ∷ []) k x.1))
@@ -168,10 +168,12 @@ module _ (bytes a : List ℕ) where
         tags = ap (λ (z : Spine TextId). none_text z.nodes) with_all;
         calm = ap (λ (z : Spine TextId). text_last z.nodes) with_all;
         goes = λ final k next.
-            let found : List (Text × Text) = map (pair_with (text_in final)) added.all in
-            (tag_with n found false, start_is found c rest false (added.found final k) h,
-                ap (λ z. next (n ∷ names) (open_node (OfElement z found) (seen final s))) (sym (name_is final k))
-                ∙ ap (λ z. next (n ∷ names) (seen final z)) (sym with_all) ∙ ap (λ z. next z (seen final two)) (sym g));
+            let found : List (Text × Text) = map (pair_with (text_in final)) added.all in (
+              tag_with n found false,
+              start_is found c rest false (added.found final k) h,
+              ap (λ z. next (n ∷ names) (open_node (OfElement z found) (seen final s))) (sym (name_is final k))
+                  ∙ ap (λ z. next (n ∷ names) (seen final z)) (sym with_all) ∙ ap (λ z. next z (seen final two)) (sym g),
+            );
       }
 
       pub added_empty : (names : List Text) (three : Spine TextId) → three ≡ closed two → r.tag_end c ≡ Some (true, rest) → Walked (Starts bytes rest names names s three) later names names s three
@@ -184,11 +186,13 @@ module _ (bytes a : List ℕ) where
             tags = ap (λ (z : Spine TextId). none_text z.nodes) shut ∙ put_tags (Branch (OfElement id added.all) no_more) s.root s.nodes;
             calm = ap (λ (z : Spine TextId). text_last z.nodes) shut ∙ last_put (Branch (OfElement id added.all) no_more) s.root s.nodes refl;
             goes = λ final k next.
-                let found : List (Text × Text) = map (pair_with (text_in final)) added.all in
-                (tag_with n found true, start_is found c rest true (added.found final k) h,
-                    ap (λ z. next names (w.leaf (OfElement z found) (seen final s))) (sym (name_is final k))
-                    ∙ ap (next names) (sym (closed_seen final (opened (OfElement id added.all) s)))
-                    ∙ ap (λ z. next names (seen final z)) (sym shut));
+                let found : List (Text × Text) = map (pair_with (text_in final)) added.all in (
+                  tag_with n found true,
+                  start_is found c rest true (added.found final k) h,
+                  ap (λ z. next names (w.leaf (OfElement z found) (seen final s))) (sym (name_is final k))
+                      ∙ ap (next names) (sym (closed_seen final (opened (OfElement id added.all) s)))
+                      ∙ ap (λ z. next names (seen final z)) (sym shut),
+                );
           }
         where
           at_root : (os : List (Open TextId)) → is_some_open os ≡ true → (put_in (Branch (OfElement id added.all) no_more) s.root os).root ≡ None

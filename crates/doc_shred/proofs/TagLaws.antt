@@ -37,7 +37,7 @@ pub value_in_exact : (quote : ℕ) → IsQuote quote → Exact (g.value_in quote
 unfolding g.value_in r.value_in r.value_from
 value_in_exact quote q = after_exact (word_exact (quote ∷ []))
     (repeat_exact (r.goes_on quote) (value_part_exact quote) (λ parts. after_exact (word_exact (quote ∷ [])) give_exact)
-        (value_part_goes_on quote q) (value_close_ends quote) (value_part_strict quote))
+    (value_part_goes_on quote q) (value_close_ends quote) (value_part_strict quote))
 
 pub value_exact : Exact g.value r.value
 unfolding g.value r.value g.value_in
@@ -112,9 +112,9 @@ pub start_exact : Exact g.start r.start
 unfolding g.start r.start
 start_exact = then_exact (after_exact (word_exact (codes "<")) name_exact) (λ n.
     repeat_exact r.has_attribute attribute_exact (λ found. then_exact (after_exact need_exact tag_end_exact) (λ e. give_exact))
-        attribute_goes_on
-        (λ found from rest b i. ap r.has_attribute i.first.first.0 ∙ tag_end_ends i.first.mid i.mid i.part i.first.second)
-        attribute_strict)
+    attribute_goes_on
+    (λ found from rest b i. ap r.has_attribute i.first.first.0 ∙ tag_end_ends i.first.mid i.mid i.part i.first.second)
+    attribute_strict)
 
 pub end_tag_exact : Exact g.end_tag r.end_tag
 unfolding g.end_tag r.end_tag
@@ -142,8 +142,8 @@ pub text_part_exact : Exact g.text_part r.text_part
 unfolding g.text_part r.text_part
 text_part_exact = or_exact (starts is_data_byte) data_run_exact
     (or_exact (begins (codes "&")) reference_exact cdata_exact
-        (λ from rest v i. let s = reference_starts from rest v i in ap (begins (codes "&")) s.1)
-        (λ from rest v i. let s = cdata_begins from rest v i in ap (begins (codes "&")) s.1))
+    (λ from rest v i. let s = reference_starts from rest v i in ap (begins (codes "&")) s.1)
+    (λ from rest v i. let s = cdata_begins from rest v i in ap (begins (codes "&")) s.1))
     data_run_starts marked_no_data
 
 pub text_part_strict : Strict g.text_part

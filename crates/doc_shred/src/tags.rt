@@ -8,8 +8,8 @@ ghost use Rattle.doc_shred.specs.Reading as r;
 ghost use Rattle.doc_shred.specs.Standing.{IsLater, AttributeAdded, AttributeTwice, AttributesAdded, Walked, Takes, Starts};
 ghost use Rattle.doc_shred.specs.Walk as w;
 
-use crate::fault::Fault;
 use crate::bytes::strip;
+use crate::fault::Fault;
 use crate::markup::{equals, has_attribute, name, space, tag_end};
 use crate::names::OpenNames;
 use crate::values::value;

@@ -26,13 +26,7 @@ pub fn characters(bytes: &[u8]) -> Option<&str>
     ensures { lent_of result ≡ (if are_chars bytes.now then Some bytes.now else None) }
 {
     match str::from_utf8(bytes) {
-        Ok(text) => {
-            if all_chars(text) {
-                Some(text)
-            } else {
-                None
-            }
-        }
+        Ok(text) => { if all_chars(text) { Some(text) } else { None } }
         Err(_) => None,
     }
 }
@@ -43,13 +37,7 @@ pub fn name_text(bytes: &[u8]) -> Option<&str>
     ensures { lent_of result ≡ (if is_name_text bytes.now then Some bytes.now else None) }
 {
     match str::from_utf8(bytes) {
-        Ok(text) => {
-            if is_name(text) {
-                Some(text)
-            } else {
-                None
-            }
-        }
+        Ok(text) => { if is_name(text) { Some(text) } else { None } }
         Err(_) => None,
     }
 }

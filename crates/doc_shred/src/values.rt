@@ -18,13 +18,7 @@ pub fn after_quote(quote: u8, bytes: &[u8]) -> Option<&[u8]>
 {
     match bytes {
         [] => None,
-        [first, rest @ ..] => {
-            if *first == quote {
-                Some(rest)
-            } else {
-                None
-            }
-        }
+        [first, rest @ ..] => { if *first == quote { Some(rest) } else { None } }
     }
 }
 
@@ -32,7 +26,11 @@ pub fn after_quote(quote: u8, bytes: &[u8]) -> Option<&[u8]>
 fn blanked(c: char) -> char
     ensures { result ≡ to_blank c }
 {
-    if c == '\t' || c == '\n' || c == '\r' { ' ' } else { c }
+    if c == '\t' || c == '\n' || c == '\r' {
+        ' '
+    } else {
+        c
+    }
 }
 
 /// Adds a text with a blank for each white space character.

@@ -12,13 +12,13 @@ pub returns-in-Err-clause-refused : goal.returns-in-Err-clause-refused
 returns-in-Err-clause-refused c = λ e.
     let on : has_misc c.loop-turn.rest.now ≡ true = search rules in
     among_refused c.args.pool.now c.loop-turn.pool c.args.builder.now c.loop-turn.builder (length c.args.bytes.now + 1) c.loop-turn._turn c.args.bytes.now c.loop-turn.rest.now (omega arith) c.loop-turn.invariant
-        c.misc.new.pool on c.misc.ensures.later (c.in-Err.ensures.refused (search rules))
+    c.misc.new.pool on c.misc.ensures.later (c.in-Err.ensures.refused (search rules))
 
 pub loop-turn-preserved : goal.loop-turn-preserved
 loop-turn-preserved c =
     let on : has_misc c.loop-turn.rest.now ≡ true = search rules in
     among_goes_on c.args.pool.now c.loop-turn.pool c.args.builder.now c.loop-turn.builder (length c.args.bytes.now + 1) c.loop-turn._turn c.args.bytes.now c.loop-turn.rest.now (omega arith) c.loop-turn.invariant
-        c.misc.new.pool c.misc.new.builder c.in-Ok.after.now on c.misc.ensures.later c.in-Ok.ensures.added
+    c.misc.new.pool c.misc.new.builder c.in-Ok.after.now on c.misc.ensures.later c.in-Ok.ensures.added
 
 pub returns-clause-refused : goal.returns-clause-refused
 returns-clause-refused c = λ e.

@@ -21,8 +21,8 @@ pub returns-in-Err-clause-refused : goal.returns-in-Err-clause-refused
 returns-in-Err-clause-refused c =
     let plain : w.is_unknown (w.head c.args.text.now).0 ≡ false = ap w.is_unknown (sym c.head.ensures.encoding) ∙ sym c.is_unknown.ensures ∙ c.if-is_unknown.false in
     subst (PrologRefused c.args.text.now) (sym c.refusal.ensures)
-        (miscs_refused c.args.text.now c.args.builder.now c.requires.empty plain c.miscs.new.pool c.in-Err.error
-            (λ e. subst (NoMiscs c.miscs.new.pool c.args.builder.now) c.head.ensures.rest (c.in-Err.ensures.refused (ap (λ z. Err z) e))))
+    (miscs_refused c.args.text.now c.args.builder.now c.requires.empty plain c.miscs.new.pool c.in-Err.error
+    (λ e. subst (NoMiscs c.miscs.new.pool c.args.builder.now) c.head.ensures.rest (c.in-Err.ensures.refused (ap (λ z. Err z) e))))
 
 pub typed-requires-clause-room : goal.typed-requires-clause-room
 typed-requires-clause-room c =
@@ -35,15 +35,15 @@ returns-clause-read c =
     let plain : w.is_unknown (w.head c.args.text.now).0 ≡ false = ap w.is_unknown (sym c.head.ensures.encoding) ∙ sym c.is_unknown.ensures ∙ c.if-is_unknown.false in
     let read : MiscsRead c.miscs.new.pool c.args.builder.now c.miscs.new.builder (w.head c.args.text.now).1 c.in-Ok.rest.now = subst (λ z. MiscsRead c.miscs.new.pool c.args.builder.now c.miscs.new.builder z c.in-Ok.rest.now) c.head.ensures.rest c.in-Ok.ensures.read in
     if_ok
-        (λ (last : Lent). TypeRead c.typed.new.pool c.miscs.new.builder c.typed.new.builder c.in-Ok.rest.now last.now)
-        (λ (last : Lent). PrologRead c.typed.new.pool c.typed.new.builder c.args.text.now last.now)
-        c.typed.result c.typed.ensures.read
-        (λ last t. prolog_read c.args.text.now c.args.builder.now c.requires.empty plain c.miscs.new.pool c.miscs.new.builder c.in-Ok.rest.now read c.typed.new.pool c.typed.new.builder last.now c.typed.ensures.later t)
+    (λ (last : Lent). TypeRead c.typed.new.pool c.miscs.new.builder c.typed.new.builder c.in-Ok.rest.now last.now)
+    (λ (last : Lent). PrologRead c.typed.new.pool c.typed.new.builder c.args.text.now last.now)
+    c.typed.result c.typed.ensures.read
+    (λ last t. prolog_read c.args.text.now c.args.builder.now c.requires.empty plain c.miscs.new.pool c.miscs.new.builder c.in-Ok.rest.now read c.typed.new.pool c.typed.new.builder last.now c.typed.ensures.later t)
 
 pub returns-clause-refused : goal.returns-clause-refused
 returns-clause-refused c =
     let plain : w.is_unknown (w.head c.args.text.now).0 ≡ false = ap w.is_unknown (sym c.head.ensures.encoding) ∙ sym c.is_unknown.ensures ∙ c.if-is_unknown.false in
     let read : MiscsRead c.miscs.new.pool c.args.builder.now c.miscs.new.builder (w.head c.args.text.now).1 c.in-Ok.rest.now = subst (λ z. MiscsRead c.miscs.new.pool c.args.builder.now c.miscs.new.builder z c.in-Ok.rest.now) c.head.ensures.rest c.in-Ok.ensures.read in
     if_err
-        (TypeRefused c.typed.new.pool c.miscs.new.builder c.in-Ok.rest.now) (PrologRefused c.args.text.now) c.typed.result c.typed.ensures.refused
-        (λ fault t. prolog_refused c.args.text.now c.args.builder.now c.requires.empty plain c.miscs.new.pool c.miscs.new.builder c.in-Ok.rest.now read c.typed.new.pool fault c.typed.ensures.later t)
+    (TypeRefused c.typed.new.pool c.miscs.new.builder c.in-Ok.rest.now) (PrologRefused c.args.text.now) c.typed.result c.typed.ensures.refused
+    (λ fault t. prolog_refused c.args.text.now c.args.builder.now c.requires.empty plain c.miscs.new.pool c.miscs.new.builder c.in-Ok.rest.now read c.typed.new.pool fault c.typed.ensures.later t)

@@ -15,9 +15,9 @@ returns-clause-passed c = if_ok
     (λ (last : Lent). Passed texted c.piece.new.pool c.args.names.now c.piece.new.names c.args.builder.now c.piece.new.builder c.args.bytes.now last.now)
     c.piece.result c.piece.ensures.passed
     (λ last p. turn_passed c.add_text.new.pool c.args.names.now c.args.builder.now c.add_text.new.builder c.args.bytes.now c.in-Ok.rest.now c.requires.state c.in-Ok.ensures.added
-        c.piece.new.pool c.piece.new.names c.piece.new.builder last.now c.piece.ensures.later p)
+    c.piece.new.pool c.piece.new.names c.piece.new.builder last.now c.piece.ensures.later p)
 
 pub returns-clause-refused : goal.returns-clause-refused
 returns-clause-refused c = λ e.
     turn_refused c.add_text.new.pool c.args.names.now c.args.builder.now c.add_text.new.builder c.args.bytes.now c.in-Ok.rest.now c.requires.state c.in-Ok.ensures.added
-        c.piece.new.pool c.piece.ensures.later (c.piece.ensures.refused e)
+    c.piece.new.pool c.piece.ensures.later (c.piece.ensures.refused e)

@@ -37,7 +37,7 @@ returns-in_default-tag_end-clause-refused c = λ e.
     let last : r.tag_end c.in-Ok.rest.now ≡ None = search rules in
     let added = c.in-Ok.ensures.added in
     start_no_end c.args.bytes.now c.in-Some.rest.now c.in-Some-name.name.now c.in-Some-name.rest.now one two
-        (map (pair_with (text_in c.add_attributes.new.pool)) added.all) c.in-Ok.rest.now (added.found c.add_attributes.new.pool (later_self c.add_attributes.new.pool)) last
+    (map (pair_with (text_in c.add_attributes.new.pool)) added.all) c.in-Ok.rest.now (added.found c.add_attributes.new.pool (later_self c.add_attributes.new.pool)) last
 
 pub returns-then-is_empty-clause-started : goal.returns-then-is_empty-clause-started
 returns-then-is_empty-clause-started c =
@@ -47,8 +47,8 @@ returns-then-is_empty-clause-started c =
     let begun : c.open.new.self ≡ opened (OfElement c.in_ok-id.id []) c.args.builder.now = search rules in
     let last : r.tag_end c.in-Ok.rest.now ≡ Some (true, c.in-Some-tag_end.rest.now) = search rules in
     added_empty c.args.bytes.now c.in-Some.rest.now c.in-Some-name.name.now c.in-Some-name.rest.now one two
-        c.intern.new.self c.add_attributes.new.pool c.args.builder.now c.open.new.self c.add_attributes.new.builder c.in_ok-id.id c.in-Ok.rest.now c.in-Some-tag_end.rest.now
-        c.requires.takes.root c.requires.takes.inside c.add_attributes.ensures.later given begun c.in-Ok.ensures.added c.args.names.now c.close.new.self c.close.ensures last
+    c.intern.new.self c.add_attributes.new.pool c.args.builder.now c.open.new.self c.add_attributes.new.builder c.in_ok-id.id c.in-Ok.rest.now c.in-Some-tag_end.rest.now
+    c.requires.takes.root c.requires.takes.inside c.add_attributes.ensures.later given begun c.in-Ok.ensures.added c.args.names.now c.close.new.self c.close.ensures last
 
 pub returns-clause-started : goal.returns-clause-started
 returns-clause-started c =
@@ -59,5 +59,5 @@ returns-clause-started c =
     let last : r.tag_end c.in-Ok.rest.now ≡ Some (false, c.in-Some-tag_end.rest.now) = search rules in
     let pushed : c.push.new.self ≡ c.in-Some-name.name.now ∷ c.args.names.now = search rules in
     started c.args.bytes.now c.in-Some.rest.now c.in-Some-name.name.now c.in-Some-name.rest.now one two
-        c.intern.new.self c.add_attributes.new.pool c.args.builder.now c.open.new.self c.add_attributes.new.builder c.in_ok-id.id c.in-Ok.rest.now c.in-Some-tag_end.rest.now
-        c.requires.takes.root c.requires.takes.inside c.add_attributes.ensures.later given begun c.in-Ok.ensures.added c.args.names.now c.push.new.self pushed last
+    c.intern.new.self c.add_attributes.new.pool c.args.builder.now c.open.new.self c.add_attributes.new.builder c.in_ok-id.id c.in-Ok.rest.now c.in-Some-tag_end.rest.now
+    c.requires.takes.root c.requires.takes.inside c.add_attributes.ensures.later given begun c.in-Ok.ensures.added c.args.names.now c.push.new.self pushed last

@@ -13,13 +13,13 @@ pub returns-in-Err : goal.returns-in-Err
 returns-in-Err c =
     let on : r.goes_on c.args.quote c.loop-turn.rest.now ≡ true = search rules in
     passed_on (fronted (string_bytes c.loop-turn.value) (r.value_part c.args.quote c.loop-turn.rest.now)) (r.value_from c.args.quote [] (length c.args.bytes.now + 1) c.args.bytes.now) c.in-Err.error c.in-Err.ensures
-        (value_refused c.args.quote (string_bytes c.loop-turn.value) (length c.args.bytes.now + 1) c.loop-turn._turn c.loop-turn.rest.now (length c.args.bytes.now + 1) c.args.bytes.now (omega arith) c.loop-turn.invariant on)
+    (value_refused c.args.quote (string_bytes c.loop-turn.value) (length c.args.bytes.now + 1) c.loop-turn._turn c.loop-turn.rest.now (length c.args.bytes.now + 1) c.args.bytes.now (omega arith) c.loop-turn.invariant on)
 
 pub loop-turn-preserved : goal.loop-turn-preserved
 loop-turn-preserved c =
     let on : r.goes_on c.args.quote c.loop-turn.rest.now ≡ true = search rules in
     value_goes_on c.args.quote (string_bytes c.loop-turn.value) (length c.args.bytes.now + 1) c.loop-turn._turn c.loop-turn.rest.now (length c.args.bytes.now + 1) c.args.bytes.now (omega arith) c.loop-turn.invariant
-        (string_bytes c.value_part.new.value) c.in-Ok.after.now on c.in-Ok.ensures
+    (string_bytes c.value_part.new.value) c.in-Ok.after.now on c.in-Ok.ensures
 
 pub returns-in_default : goal.returns-in_default
 returns-in_default c =
