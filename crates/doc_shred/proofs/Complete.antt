@@ -1,13 +1,12 @@
 -- What the grammar says of content is read.
-use Rattle.std.proofs.Common.{◌≡◌, ℕ, zero, suc, ◌+◌, ◌<◌, ◌≤◌, Bool, true, false, not, ◌||◌, ◌&&◌, cond, nat_eq, List, [], ◌∷◌, ◌++◌, length, codes, ◌⊎◌, inl, inr, refl, sym, ap, ◌∙◌, subst, arith, true≢false, Option, Some, None, option_and_then}
+use Rattle.std.proofs.Common.{◌≡◌, ℕ, zero, suc, ◌+◌, ◌<◌, ◌≤◌, true, false, cond, List, [], ◌∷◌, length, inl, inr, refl, sym, ap, ◌∙◌, subst, arith, Some, None, option_and_then}
 use Rattle.std.specs.Str.{bytes_eq}
 use Rattle.std.proofs.lemmas.Slice.Eq.{bytes_eq-Decides}
-use Rattle.doc_table.specs.Tree.{Label, OfDocument, OfElement, OfAttribute, OfText, OfComment, OfInstruction, Tree, Forest, Branch, no_more, one_more, forest_of}
-use Rattle.doc_table.specs.Spine.{Open, tree_of}
+use Rattle.doc_table.specs.Tree.{OfDocument, OfElement, OfAttribute, OfText, OfComment, OfInstruction, Tree, Forest, Branch, no_more, one_more}
 use Rattle.doc_shred.specs.Markup as g
 use Rattle.doc_shred.specs.Reading as r
-use Rattle.doc_shred.specs.Content.{Text, Filled, IsPaired, IsFollowed, IsElement, IsNode, IsContent, AreMarked, IsFirst}
-use Rattle.doc_shred.specs.Walk.{Nodes, Walked, Piece, starts, ends, notes, instructs, piece, put_node, leaf, open_node, close_node, add_text, step, end_step, marked, turn, content, root}
+use Rattle.doc_shred.specs.Content.{Text, IsNode, IsContent, AreMarked, IsFirst}
+use Rattle.doc_shred.specs.Walk.{Nodes, Walked, Piece, starts, put_node, leaf, open_node, close_node, add_text, step, marked, content, root}
 use Rattle.doc_shred.proofs.Exact.{Narrow, then_narrow, many_narrow, gives_narrow}
 use Rattle.doc_shred.proofs.TagLaws.{text_run_complete, text_part_strict, start_exact}
 use Rattle.doc_shred.proofs.PieceLaws.{start_no_text, end_no_text, comment_no_text, instruction_no_text, read_end, read_comment, read_instruction, read_start, start_strict, end_tag_strict, comment_strict, instruction_strict}

@@ -1,10 +1,10 @@
 -- The loop over content, turn by turn.
-use Rattle.std.proofs.Common.{◌≡◌, ℕ, zero, suc, ◌+◌, ◌-◌, ◌<◌, ◌≤◌, ◌^◌, Bool, true, false, List, [], ◌∷◌, length, Option, Some, None, refl, sym, ap, ◌∙◌, subst, arith}
+use Rattle.std.proofs.Common.{◌≡◌, ℕ, suc, ◌+◌, ◌-◌, ◌<◌, ◌≤◌, false, List, [], ◌∷◌, length, Some, None, refl, sym, ap, ◌∙◌, subst, arith}
 use Rattle.xq_base.specs.declared.item.TextId.{TextId}
 use Rattle.doc_table.specs.Spine.{Spine, rows_in, text_last}
 use Rattle.doc_shred.specs.Content.{Text}
-use Rattle.doc_shred.specs.Walk.{Nodes, Walk, texted, turn, content}
-use Rattle.doc_shred.specs.Standing.{Texts, seen, IsLater, IsState, Passed, IsMalformed, HasRoom, ContentRead, NoContent}
+use Rattle.doc_shred.specs.Walk.{Nodes, texted, content}
+use Rattle.doc_shred.specs.Standing.{Texts, seen, IsLater, IsState, Passed, IsMalformed, ContentRead, NoContent}
 use Rattle.doc_shred.proofs.Spines.{later_self, later_later}
 
 -- so far: reading on gives what reading from the start gives

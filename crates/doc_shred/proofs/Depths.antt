@@ -1,10 +1,10 @@
 -- The level of the deepest row.
-use Rattle.std.proofs.Common.{◌≡◌, ℕ, zero, suc, ◌+◌, ◌-◌, ◌<◌, ◌≤◌, max, Bool, true, false, ◌||◌, cond, nat_lt, Decides, List, [], ◌∷◌, ◌++◌, length, map, drop, get_or, refl, sym, ap, ◌∙◌, subst, arith}
+use Rattle.std.proofs.Common.{◌≡◌, ℕ, suc, ◌+◌, ◌<◌, ◌≤◌, max, Bool, true, false, ◌||◌, nat_lt, List, [], ◌∷◌, ◌++◌, length, drop, refl, sym, ap, ◌∙◌, arith}
 use Rattle.std.specs.List.{list_any}
-use Rattle.std.proofs.lemmas.Bool.Decides.{Decides-ltb, nat_tests}
+use Rattle.std.proofs.lemmas.Bool.Decides.{nat_tests}
 use Rattle.std.proofs.lemmas.List.{at_drop_more, at_drop_all}
-use Rattle.doc_table.specs.Tree.{Label, OfDocument, OfElement, OfAttribute, OfText, OfComment, OfInstruction, Tree, Forest, Branch, no_more, one_more, tree_with, forest_with}
-use Rattle.doc_table.specs.Enc.{Line, line_of, enc_at, encs_at, enc, no_line, line_in}
+use Rattle.doc_table.specs.Tree.{Tree, Forest, Branch, no_more, one_more, tree_with, forest_with}
+use Rattle.doc_table.specs.Enc.{Line, enc_at, encs_at, enc, no_line, line_in}
 use Rattle.doc_shred.specs.Document.{deepest, deepest_in, level_limit}
 
 swapped : (a b c : Bool) → a || (b || c) ≡ b || (a || c)

@@ -1,26 +1,25 @@
 -- Whole documents are read exactly as the grammar says.
-use Rattle.std.proofs.Common.{◌≡◌, ℕ, zero, suc, ◌+◌, ◌<◌, ◌≤◌, Bool, true, false, not, ◌||◌, ◌&&◌, cond, nat_eq, List, [], ◌∷◌, ◌++◌, length, codes, ◌⊎◌, inl, inr, refl, sym, ap, ◌∙◌, subst, arith, true≢false, Option, Some, None, option_and_then, drop, append-nil, append_assoc}
+use Rattle.std.proofs.Common.{◌≡◌, ℕ, zero, suc, ◌+◌, ◌<◌, Bool, true, false, not, ◌||◌, cond, nat_eq, List, [], ◌∷◌, ◌++◌, length, codes, inl, inr, refl, sym, ap, ◌∙◌, subst, arith, true≢false, Option, Some, None, option_and_then, drop, append-nil, append_assoc}
 use Rattle.std.proofs.lemmas.Option.{same_Some}
 use Rattle.std.proofs.lemmas.Bool.{eqb-true}
 use Rattle.xq_base.specs.Chars.{is_name_start, is_name_char}
-use Rattle.doc_table.specs.Tree.{Label, OfDocument, OfElement, OfAttribute, OfText, OfComment, OfInstruction, Tree, Forest, Branch, no_more, one_more, forest_of}
-use Rattle.doc_table.specs.Spine.{Open}
-use Rattle.doc_shred.specs.Rules.{Rule, IsThen, ◌▷=◌, ◌▷◌, gives, where_, ◌or◌, word, many, IsMany, IsRunOf, starts, begins}
-use Rattle.doc_shred.specs.Parsers.{run, after_run}
+use Rattle.doc_table.specs.Tree.{OfDocument, OfElement, OfAttribute, OfText, OfComment, OfInstruction, Tree, Branch, forest_of}
+use Rattle.doc_shred.specs.Rules.{◌▷=◌, ◌▷◌, gives, where_, ◌or◌, IsMany, starts, begins}
+use Rattle.doc_shred.specs.Parsers.{run}
 use Rattle.doc_shred.specs.Classes.{is_blank, is_name_byte, is_xml, is_known_encoding}
 use Rattle.doc_shred.specs.Markup as m
 use Rattle.doc_shred.specs.Prolog as p
 use Rattle.doc_shred.specs.Reading as r
-use Rattle.doc_shred.specs.Content.{Text, IsNode}
+use Rattle.doc_shred.specs.Content.{Text}
 use Rattle.doc_shred.specs.Document as d
 use Rattle.doc_shred.specs.Walk as w
 use Rattle.doc_shred.specs.Walk.{Nodes, Walked, put_node, put_list, has_misc, miscs_from, at_end}
-use Rattle.doc_shred.proofs.Exact.{Exact, bound, chosen, begins_front, run_again, Strict, then_strict, or_strict, some_of_strict, gives_narrow}
-use Rattle.doc_shred.proofs.Lexical.{not_begins, other}
+use Rattle.doc_shred.proofs.Exact.{bound, chosen, begins_front, run_again, Strict, then_strict, or_strict, some_of_strict, gives_narrow}
+use Rattle.doc_shred.proofs.Lexical.{not_begins}
 use Rattle.doc_shred.proofs.PieceLaws.{start_begins, mark_no_name, question_no_name, comment_strict, instruction_strict}
 use Rattle.doc_shred.proofs.Prologs.{comment_begins, instruction_begins, misc_exact, doctype_exact, declaration_exact}
 use Rattle.doc_shred.proofs.Complete.{root_read}
-use Rattle.doc_shred.proofs.Sound.{IsRoot, root_sound}
+use Rattle.doc_shred.proofs.Sound.{root_sound}
 
 -- ---- Misc*
 

@@ -1,8 +1,8 @@
 -- A parser is exact for a rule: it reads what the rule says, and all of it.
-use Rattle.std.proofs.Common.{◌≡◌, ℕ, zero, suc, ◌+◌, ◌<◌, ◌≤◌, Bool, true, false, not, ◌||◌, ◌&&◌, cond, nat_eq, List, [], ◌∷◌, ◌++◌, length, ◌⊎◌, inl, inr, Option, Some, None, option_map, option_and_then, refl, sym, ap, ◌∙◌, subst, arith, append_assoc, append-nil, length-append, true≢false}
+use Rattle.std.proofs.Common.{◌≡◌, ℕ, zero, suc, ◌+◌, ◌<◌, ◌≤◌, Bool, true, false, cond, nat_eq, List, [], ◌∷◌, ◌++◌, length, inl, inr, Option, Some, None, option_map, option_and_then, refl, sym, ap, ◌∙◌, subst, arith, append_assoc, append-nil, length-append, true≢false}
 use Rattle.std.proofs.lemmas.Bool.{eqb-true}
 use Rattle.std.proofs.lemmas.Option.{same_Some}
-use Rattle.doc_shred.specs.Rules.{Rule, IsThen, ◌▷=◌, ◌▷◌, gives, where_, ◌or◌, word, IsMany, many, Each, starts, IsRunOf, any_of, some_of, begins, before}
+use Rattle.doc_shred.specs.Rules.{Rule, ◌▷=◌, ◌▷◌, gives, where_, ◌or◌, word, IsMany, many, Each, starts, IsRunOf, any_of, some_of, begins, before}
 use Rattle.doc_shred.specs.Parsers.{Parser, ◌>>=◌, ◌>>◌, give, need, choose, strip, run, after_run, run_of, some_run_of, before_first, repeat}
 
 pub record Exact {A : Type 0} (R : Rule A) (p : Parser A) : Type 0 where

@@ -1,9 +1,8 @@
 -- Lists of trees and forests.
-use Rattle.std.proofs.Common.{◌≡◌, ℕ, List, [], ◌∷◌, ◌++◌, refl, sym, ap, ◌∙◌, append_assoc, append-nil}
+use Rattle.std.proofs.Common.{◌≡◌, List, [], ◌∷◌, ◌++◌, refl, sym, ap, ◌∙◌, append_assoc, append-nil}
 use Rattle.doc_table.specs.Tree.{Label, OfText, Tree, Forest, Branch, no_more, one_more, forest_of, trees_in}
-use Rattle.doc_table.specs.Spine.{Open, tree_of}
 use Rattle.doc_shred.specs.Content.{Text}
-use Rattle.doc_shred.specs.Walk.{Nodes, put_node, open_node, close_node, add_text, leaf}
+use Rattle.doc_shred.specs.Walk.{Nodes, put_node, open_node, close_node, add_text}
 
 -- these trees in front of a forest
 abbrev pub onto : List (Tree Text) → Forest Text → Forest Text

@@ -1,16 +1,14 @@
 -- Each production of markup is read as it says.
-use Rattle.std.proofs.Common.{Option, Some, None, ◌≡◌, ℕ, zero, suc, ◌+◌, ◌<◌, ◌≤◌, Bool, true, false, not, ◌||◌, ◌&&◌, cond, nat_eq, List, [], ◌∷◌, ◌++◌, length, map, codes, ◌⊎◌, inl, inr, refl, sym, ap, ◌∙◌, subst, arith, true≢false}
+use Rattle.std.proofs.Common.{Some, ◌≡◌, ℕ, Bool, true, false, not, ◌&&◌, cond, nat_eq, List, [], ◌∷◌, codes, inl, inr, refl, sym, ap, ◌∙◌, true≢false}
 use Rattle.std.specs.Char.{encode_utf8, is_ascii_digit, is_ascii_hexdigit}
 use Rattle.std.specs.Str.{bytes_eq}
 use Rattle.std.proofs.lemmas.Bool.{eqb-true}
-use Rattle.xq_base.specs.Chars.{is_char, is_name_start, is_name_char}
-use Rattle.doc_table.specs.Sound.{names_differ}
-use Rattle.doc_shred.specs.Rules.{Rule, IsThen, ◌▷=◌, ◌▷◌, gives, where_, ◌or◌, word, many, starts, begins, before, IsRunOf, any_of, some_of, Each}
-use Rattle.doc_shred.specs.Parsers.{after_run, run, strip}
-use Rattle.doc_shred.specs.Classes.{is_blank, are_chars, is_name_text, is_name_byte, is_xml, is_data_byte, are_data, is_value_byte, to_blank, decimal, hexadecimal}
+use Rattle.doc_shred.specs.Rules.{Rule, ◌▷=◌, ◌▷◌, gives, ◌or◌, word, starts, begins}
+use Rattle.doc_shred.specs.Parsers.{strip}
+use Rattle.doc_shred.specs.Classes.{is_blank, is_name_byte, is_value_byte, decimal, hexadecimal}
 use Rattle.doc_shred.specs.Markup as g
 use Rattle.doc_shred.specs.Reading as r
-use Rattle.doc_shred.proofs.Exact.{Exact, then_exact, after_exact, give_exact, need_exact, or_exact, word_exact, any_of_exact, some_of_exact, before_exact, repeat_exact, begins_front, run_again, Strict, Narrow, then_narrow, then_strict, or_narrow, or_strict, gives_narrow, where_narrow, word_narrow, word_strict, any_of_narrow, some_of_narrow, some_of_strict, before_narrow, many_narrow}
+use Rattle.doc_shred.proofs.Exact.{Exact, then_exact, after_exact, give_exact, need_exact, or_exact, word_exact, any_of_exact, some_of_exact, before_exact, begins_front, Strict, Narrow, then_narrow, then_strict, or_narrow, or_strict, gives_narrow, where_narrow, word_narrow, word_strict, any_of_narrow, some_of_narrow, some_of_strict}
 
 pub name_exact : Exact g.name r.name
 unfolding g.name r.name

@@ -1,12 +1,12 @@
 -- Line ends, and the mark at the start.
-use Rattle.std.proofs.Common.{◌≡◌, ℕ, zero, suc, ◌+◌, ◌-◌, ◌<◌, ◌≤◌, Bool, true, false, cond, nat_eq, List, [], ◌∷◌, ◌++◌, length, drop, get_or, Option, Some, None, is_some, refl, sym, ap, ◌∙◌, subst, arith, append_assoc, length-drop, append-nil}
-use Rattle.std.proofs.lemmas.List.{drop_all, at_drop_more, at_drop_all}
+use Rattle.std.proofs.Common.{◌≡◌, ℕ, suc, ◌+◌, ◌<◌, ◌≤◌, Bool, true, false, cond, nat_eq, List, [], ◌∷◌, ◌++◌, length, drop, get_or, Option, Some, None, is_some, sym, ap, ◌∙◌, arith, length-drop, append-nil}
+use Rattle.std.proofs.lemmas.List.{at_drop_more, at_drop_all}
 use Rattle.doc_shred.specs.Rules.{begins}
 use Rattle.doc_shred.specs.Parsers.{strip}
-use Rattle.doc_shred.specs.Views.{Lent, silent}
+use Rattle.doc_shred.specs.Views.{Lent}
 use Rattle.doc_shred.specs.Document.{without_mark, lines_from, lines_joined, text_of}
 use Rattle.doc_shred.specs.Standing.{LineAdded}
-use Rattle.doc_shred.proofs.Exact.{word_exact, begins_front}
+use Rattle.doc_shred.proofs.Exact.{word_exact}
 use Rattle.doc_shred.proofs.Runs.{begins_by}
 
 abbrev mark : List ℕ

@@ -1,8 +1,8 @@
 -- What stands before and after the root element, and the root element, in the builder.
-use Rattle.std.proofs.Common.{◌≡◌, ℕ, zero, suc, ◌+◌, ◌-◌, ◌<◌, ◌≤◌, ◌^◌, Bool, true, false, cond, List, [], ◌∷◌, ◌++◌, length, Option, Some, None, option_and_then, refl, sym, ap, ◌∙◌, subst, arith, codes}
+use Rattle.std.proofs.Common.{◌≡◌, ℕ, suc, ◌+◌, ◌-◌, ◌<◌, ◌≤◌, true, false, cond, List, [], ◌∷◌, length, Some, None, option_and_then, refl, sym, ap, ◌∙◌, subst, arith, codes}
 use Rattle.xq_base.specs.declared.item.TextId.{TextId}
 use Rattle.doc_table.specs.Tree.{Tree, Branch, OfComment, OfInstruction, no_more}
-use Rattle.doc_table.specs.Spine.{Spine, rows_in, text_last, with_leaf}
+use Rattle.doc_table.specs.Spine.{Spine, rows_in, text_last}
 use Rattle.doc_shred.specs.Rules.{starts, begins}
 use Rattle.doc_shred.specs.Parsers.{run, after_run}
 use Rattle.doc_shred.specs.Classes.{is_blank}

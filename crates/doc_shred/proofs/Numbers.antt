@@ -1,12 +1,12 @@
 -- Numbers of characters: one that is too great counts as one that no character has.
-use Rattle.std.proofs.Common.{◌≡◌, ℕ, ◌+◌, ◌*◌, ◌<◌, ◌≤◌, min, Bool, true, false, List, [], ◌∷◌, ◌++◌, refl, sym, ap, ◌∙◌, arith, subst, true≢false, cond, take, length, get_or, ◌⊎◌, inl, inr, Some, None, option_and_then}
+use Rattle.std.proofs.Common.{◌≡◌, ℕ, ◌+◌, ◌*◌, ◌<◌, ◌≤◌, min, Bool, true, false, List, [], ◌∷◌, ◌++◌, refl, sym, ap, ◌∙◌, arith, cond, ◌⊎◌, inl, inr, Some, None, option_and_then}
 use Rattle.std.specs.Char.{digit_value, encode_utf8}
 use Rattle.std.proofs.lemmas.Bool.{cases_lt}
 use Rattle.std.proofs.lemmas.Bool.Decides.{nat_tests}
 use Rattle.xq_base.specs.Chars.{is_char}
 use Rattle.doc_shred.specs.Classes.{number}
 use Rattle.doc_shred.specs.Views.{radix_of}
-use Rattle.doc_shred.specs.Parsers.{Parser, strip}
+use Rattle.doc_shred.specs.Parsers.{strip}
 use Rattle.doc_shred.specs.Reading as r
 
 pub number-push : (radix before d : ℕ) (ds : List ℕ) → number radix before (ds ++ d ∷ []) ≡ number radix before ds * radix + digit_value d

@@ -1,9 +1,8 @@
 -- What is in the builder after a piece, and what a walk makes of it.
-use Rattle.std.proofs.Common.{◌≡◌, ℕ, zero, suc, ◌+◌, ◌-◌, ◌<◌, ◌≤◌, ◌^◌, Bool, true, false, not, ◌||◌, ◌&&◌, cond, nat_eq, List, [], ◌∷◌, ◌++◌, map, length, Option, Some, None, Result, Ok, Err, IfOk, IfErr, slice_get, option_and_then, ◌⊎◌, inl, inr, refl, sym, ap, ◌∙◌, subst, arith, true≢false, codes}
-use Rattle.std.specs.Str.{bytes_eq}
+use Rattle.std.proofs.Common.{◌≡◌, ℕ, suc, ◌+◌, ◌<◌, ◌≤◌, Bool, true, false, not, ◌&&◌, cond, List, [], ◌∷◌, length, Option, Some, None, Result, Ok, Err, IfOk, IfErr, option_and_then, ◌⊎◌, inl, inr, refl, sym, ap, ◌∙◌, subst, arith, codes}
 use Rattle.std.proofs.lemmas.Slice.Eq.{bytes_eq-Decides}
 use Rattle.xq_base.specs.declared.item.TextId.{TextId}
-use Rattle.doc_table.specs.Tree.{Label, OfDocument, OfElement, OfAttribute, OfText, OfComment, OfInstruction, Tree, Branch, no_more, text_in}
+use Rattle.doc_table.specs.Tree.{Label, OfText, OfComment, OfInstruction, Branch, no_more}
 use Rattle.doc_table.specs.Spine.{Open, Spine, closed, is_some_open, is_text, rows_in, text_last, with_leaf, put_in, tree_of}
 use Rattle.doc_table.proofs.SpineLaws.{rows-closed}
 use Rattle.doc_shred.specs.Rules.{begins}
@@ -11,7 +10,7 @@ use Rattle.doc_shred.specs.Content.{Text}
 use Rattle.doc_shred.specs.Markup.{Tag}
 use Rattle.doc_shred.specs.Reading as r
 use Rattle.doc_shred.specs.Walk.{Walk, Piece, starts, ends, notes, instructs, piece, leaf, step, end_step, marked, turn, add_text, texted}
-use Rattle.doc_shred.specs.Standing.{Texts, seen, IsLater, Grown, none_text, Walked, Starts, CommentAdded, InstructionAdded, TextAdded, IsTextAdded, ElementClosed, OtherEnd, IsOther, IsState, Passed, IsMalformed}
+use Rattle.doc_shred.specs.Standing.{Texts, seen, IsLater, none_text, Walked, Starts, CommentAdded, InstructionAdded, TextAdded, IsTextAdded, ElementClosed, OtherEnd, IsOther, IsState, Passed, IsMalformed}
 use Rattle.doc_shred.proofs.Lexical.{comment_exact, instruction_exact}
 use Rattle.doc_shred.proofs.TagLaws.{start_exact, end_tag_exact, text_run_sound}
 use Rattle.doc_shred.proofs.Complete.{text_run_narrow, text_run_strict}

@@ -1,5 +1,5 @@
 -- Faults that are passed on.
-use Rattle.std.proofs.Common.{◌≡◌, Option, None, Result, Err}
+use Rattle.std.proofs.Common.{◌≡◌, Option, None}
 use Rattle.doc_shred.specs.declared.fault.Fault.{Fault}
 use Rattle.doc_shred.specs.declared.fault.Fault.TheVariants.{Memory, Malformed}
 use Rattle.doc_shred.specs.Outcomes.{IsRefused}

@@ -1,12 +1,12 @@
 -- A piece of markup is one of four, told by its first bytes.
-use Rattle.std.proofs.Common.{◌≡◌, ℕ, zero, suc, ◌+◌, ◌<◌, ◌≤◌, Bool, true, false, not, ◌||◌, ◌&&◌, cond, nat_eq, List, [], ◌∷◌, ◌++◌, length, codes, ◌⊎◌, inl, inr, refl, sym, ap, ◌∙◌, subst, arith, true≢false, Option, Some, None, option_and_then}
+use Rattle.std.proofs.Common.{◌≡◌, ℕ, ◌<◌, Bool, true, false, cond, nat_eq, List, [], ◌∷◌, ◌++◌, length, codes, inl, inr, refl, ap, ◌∙◌, subst, arith, Some}
 use Rattle.xq_base.specs.Chars.{is_name_start, is_name_char}
-use Rattle.doc_shred.specs.Rules.{Rule, IsThen, ◌▷=◌, ◌▷◌, gives, ◌or◌, word, starts, begins}
+use Rattle.doc_shred.specs.Rules.{Rule, ◌▷=◌, gives, ◌or◌, starts, begins}
 use Rattle.doc_shred.specs.Classes.{is_name_byte}
 use Rattle.doc_shred.specs.Markup as g
 use Rattle.doc_shred.specs.Reading as r
 use Rattle.doc_shred.specs.Walk as w
-use Rattle.doc_shred.proofs.Exact.{Exact, then_exact, after_exact, give_exact, or_exact, begins_front, Strict, Narrow, then_narrow, then_strict, or_narrow, or_strict, gives_narrow, where_narrow, word_narrow, word_strict, any_of_narrow, some_of_narrow, some_of_strict, before_narrow, many_narrow}
+use Rattle.doc_shred.proofs.Exact.{Exact, then_exact, give_exact, or_exact, Strict, Narrow, then_narrow, then_strict, or_narrow, gives_narrow, where_narrow, word_narrow, word_strict, any_of_narrow, some_of_narrow, before_narrow, many_narrow}
 use Rattle.doc_shred.proofs.Lexical.{comment_exact, instruction_exact, not_begins, name_narrow}
 use Rattle.doc_shred.proofs.TagLaws.{start_exact, end_tag_exact, name_starts, tag_end_narrow, attribute_strict}
 use Rattle.doc_shred.proofs.Prologs.{comment_begins, instruction_begins}

@@ -1,15 +1,15 @@
 -- What stands before and after the root element is read as its productions say.
-use Rattle.std.proofs.Common.{◌≡◌, ℕ, zero, suc, ◌+◌, ◌<◌, ◌≤◌, Bool, true, false, not, ◌||◌, ◌&&◌, cond, nat_eq, List, [], ◌∷◌, ◌++◌, length, map, codes, ◌⊎◌, inl, inr, refl, sym, ap, ◌∙◌, subst, arith, true≢false, Option, Some, None, option_and_then, append-nil, append_assoc}
+use Rattle.std.proofs.Common.{◌≡◌, ℕ, true, false, List, [], ◌∷◌, ◌++◌, codes, ◌⊎◌, inl, inr, refl, sym, ap, ◌∙◌}
 use Rattle.std.specs.Char.{is_ascii_digit, is_ascii_alphabetic}
 use Rattle.doc_table.specs.Tree.{Tree, Branch, OfComment, OfInstruction, no_more}
-use Rattle.doc_shred.specs.Rules.{Rule, IsThen, ◌▷=◌, ◌▷◌, gives, where_, ◌or◌, word, many, IsMany, starts, begins, before, IsRunOf, any_of, some_of, Each}
-use Rattle.doc_shred.specs.Parsers.{Parser, after_run, run, strip, repeat}
-use Rattle.doc_shred.specs.Classes.{is_blank, are_chars, is_encoding_byte, is_public_byte}
+use Rattle.doc_shred.specs.Rules.{Rule, ◌▷=◌, gives, ◌or◌, starts, begins}
+use Rattle.doc_shred.specs.Parsers.{Parser, after_run}
+use Rattle.doc_shred.specs.Classes.{is_blank, is_encoding_byte}
 use Rattle.doc_shred.specs.Markup as m
 use Rattle.doc_shred.specs.Prolog as g
 use Rattle.doc_shred.specs.Reading as r
-use Rattle.doc_shred.proofs.Exact.{Exact, bound, chosen, then_exact, after_exact, give_exact, need_exact, or_exact, word_exact, any_of_exact, some_of_exact, before_exact, repeat_exact, begins_front, run_again, Strict, Narrow, then_narrow, then_strict, or_narrow, or_strict, gives_narrow, where_narrow, word_narrow, word_strict, any_of_narrow, some_of_narrow, some_of_strict, before_narrow, many_narrow}
-use Rattle.doc_shred.proofs.Lexical.{name_exact, equals_exact, comment_exact, instruction_exact, not_begins, name_narrow, equals_narrow}
+use Rattle.doc_shred.proofs.Exact.{Exact, then_exact, after_exact, give_exact, need_exact, or_exact, word_exact, any_of_exact, some_of_exact, begins_front, run_again, Strict, Narrow, then_narrow, then_strict, or_narrow, gives_narrow, where_narrow, word_narrow, word_strict, any_of_narrow, some_of_narrow}
+use Rattle.doc_shred.proofs.Lexical.{name_exact, equals_exact, comment_exact, instruction_exact, name_narrow, equals_narrow}
 
 pub quoted_exact : {A : Type 0} {R : Rule A} {p : Parser A} → Exact R p → Exact (g.quoted R) (r.quoted p)
 quoted_exact e = or_exact (begins (34 ∷ []))

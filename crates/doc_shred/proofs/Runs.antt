@@ -1,9 +1,8 @@
 -- How the code finds runs and words.
-use Rattle.std.proofs.Common.{◌≡◌, ℕ, zero, suc, ◌+◌, ◌<◌, Bool, true, false, cond, ◌&&◌, ◌||◌, nat_eq, List, [], ◌∷◌, ◌++◌, length, take, drop, get_or, refl, sym, ap, ◌∙◌, ◌≤◌, ◌-◌, length-drop, arith, Option, Some, None, MatchOption, is_some, option_map, subst, append_assoc, append-nil}
+use Rattle.std.proofs.Common.{◌≡◌, ℕ, suc, ◌+◌, ◌<◌, Bool, true, false, cond, ◌&&◌, ◌||◌, nat_eq, List, [], ◌∷◌, ◌++◌, length, take, drop, get_or, refl, sym, ap, ◌∙◌, ◌≤◌, ◌-◌, length-drop, arith, Option, Some, None, MatchOption, is_some, option_map, append_assoc, append-nil}
 use Rattle.std.proofs.lemmas.List.{take_all, drop_all, take_more, at_drop_more}
 use Rattle.std.specs.List.{prefix_len}
 use Rattle.std.specs.Cmp.Lexicographic.{pointwise}
-use Rattle.std.specs.Borrow.{Bor}
 use Rattle.doc_shred.specs.Rules.{begins, holds}
 use Rattle.doc_shred.specs.Parsers.{run, after_run, strip, before_first, fronted}
 use Rattle.doc_shred.specs.Views.{Lent, silent}

@@ -1,14 +1,14 @@
 -- What is read as content is so by the grammar.
-use Rattle.std.proofs.Common.{◌≡◌, ℕ, zero, suc, ◌+◌, ◌<◌, ◌≤◌, Bool, true, false, not, ◌||◌, ◌&&◌, cond, nat_eq, List, [], ◌∷◌, ◌++◌, length, codes, ◌⊎◌, inl, inr, refl, sym, ap, ◌∙◌, subst, arith, true≢false, Option, Some, None, option_and_then, append-nil, append_assoc}
+use Rattle.std.proofs.Common.{◌≡◌, ℕ, zero, suc, ◌+◌, Bool, true, false, List, [], ◌∷◌, ◌++◌, length, inl, inr, refl, sym, ap, ◌∙◌, subst, Some, append-nil}
 use Rattle.std.specs.Str.{bytes_eq}
 use Rattle.std.proofs.lemmas.Option.{same_Some}
 use Rattle.std.proofs.lemmas.Slice.Eq.{bytes_eq-Decides}
 use Rattle.doc_table.specs.Tree.{Label, OfDocument, OfElement, OfAttribute, OfText, OfComment, OfInstruction, Tree, Forest, Branch, no_more, one_more, forest_of}
-use Rattle.doc_table.specs.Spine.{Open, tree_of}
+use Rattle.doc_table.specs.Spine.{Open}
 use Rattle.doc_shred.specs.Markup as g
 use Rattle.doc_shred.specs.Reading as r
-use Rattle.doc_shred.specs.Content.{Text, Filled, IsPaired, IsFollowed, IsElement, IsNode, IsContent, AreMarked, IsFirst}
-use Rattle.doc_shred.specs.Walk.{Nodes, Walked, Piece, starts, ends, notes, instructs, piece, put_node, leaf, open_node, close_node, add_text, step, end_step, marked, turn, content, root}
+use Rattle.doc_shred.specs.Content.{Text, IsNode, IsContent, AreMarked}
+use Rattle.doc_shred.specs.Walk.{Nodes, Piece, starts, ends, notes, instructs, piece, put_node, leaf, add_text, step, marked, content, root}
 use Rattle.doc_shred.proofs.Exact.{bound, chosen}
 use Rattle.doc_shred.proofs.TagLaws.{text_run_sound, start_exact}
 use Rattle.doc_shred.proofs.PieceLaws.{IsPiece, piece_sound}

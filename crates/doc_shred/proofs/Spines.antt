@@ -1,11 +1,11 @@
 -- What the builder's calls are, seen with texts.
-use Rattle.std.proofs.Common.{◌≡◌, ℕ, zero, suc, ◌+◌, ◌<◌, ◌≤◌, Bool, true, false, not, ◌||◌, ◌&&◌, nat_eq, List, [], ◌∷◌, ◌++◌, map, length, take, Option, Some, None, slice_get, slice_index_or, refl, sym, ap, ◌∙◌, subst, arith, true≢false}
+use Rattle.std.proofs.Common.{◌≡◌, ℕ, zero, suc, true, false, List, [], ◌∷◌, ◌++◌, length, take, Option, Some, None, slice_get, slice_index_or, refl, sym, ap, ◌∙◌, true≢false}
 use Rattle.xq_base.specs.declared.item.TextId.{TextId}
 use Rattle.doc_table.specs.Tree.{Label, OfDocument, OfElement, OfAttribute, OfText, OfComment, OfInstruction, Tree, Forest, Branch, no_more, one_more, forest_of, pair_with, label_with, tree_with, text_in}
-use Rattle.doc_table.specs.Spine.{Open, Spine, tree_of, put_in, with_leaf, opened, close_in, closed, label_attribute, attribute_in, with_attribute, is_some_open, is_text, ends_in_text, text_last, rows_in, open_with, root_with, spine_with}
-use Rattle.doc_table.proofs.SpineLaws.{rows-opened, rows-leaf, rows-closed, rows-attribute, leaf-with, closed-with, attribute-with}
+use Rattle.doc_table.specs.Spine.{Open, Spine, put_in, with_leaf, opened, close_in, closed, attribute_in, with_attribute, is_some_open, is_text, ends_in_text, text_last, spine_with}
+use Rattle.doc_table.proofs.SpineLaws.{rows-leaf, leaf-with, closed-with, attribute-with}
 use Rattle.doc_shred.specs.Content.{Text}
-use Rattle.doc_shred.specs.Walk.{Nodes, put_node, leaf, open_node, close_node}
+use Rattle.doc_shred.specs.Walk.{Nodes, leaf, open_node, close_node}
 use Rattle.doc_shred.specs.Standing.{Texts, seen, IsLater, Grown, none_text}
 
 -- ---- texts by number

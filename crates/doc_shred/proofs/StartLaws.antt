@@ -1,12 +1,11 @@
 -- A start tag, part after part.
-use Rattle.std.proofs.Common.{◌≡◌, ℕ, zero, suc, ◌+◌, ◌-◌, ◌<◌, ◌≤◌, ◌^◌, Bool, true, false, not, ◌||◌, ◌&&◌, cond, nat_eq, List, [], ◌∷◌, ◌++◌, map, length, take, Option, Some, None, slice_get, option_and_then, refl, sym, ap, ◌∙◌, subst, arith, append_assoc, append-nil, true≢false, length-append, codes}
+use Rattle.std.proofs.Common.{◌≡◌, ℕ, zero, suc, ◌+◌, ◌≤◌, Bool, true, false, not, ◌||◌, ◌&&◌, cond, List, [], ◌∷◌, ◌++◌, map, length, Option, Some, None, slice_get, option_and_then, refl, sym, ap, ◌∙◌, arith, true≢false, length-append, codes}
 use Rattle.std.specs.Str.{bytes_eq}
 use Rattle.std.proofs.lemmas.Slice.Eq.{bytes_eq-Decides}
 use Rattle.xq_base.specs.declared.item.TextId.{TextId}
-use Rattle.doc_table.specs.Tree.{Label, OfDocument, OfElement, OfAttribute, OfText, OfComment, OfInstruction, Tree, Branch, no_more, text_in, pair_with}
+use Rattle.doc_table.specs.Tree.{OfElement, Branch, no_more, text_in, pair_with}
 use Rattle.doc_table.specs.Sound.{names_differ}
-use Rattle.doc_table.specs.Enc.{line_of}
-use Rattle.doc_table.specs.Spine.{Open, Spine, is_named, opened, closed, is_some_open, rows_in, lines_root, lines_open, lines_done, text_last, put_in, tree_of}
+use Rattle.doc_table.specs.Spine.{Open, Spine, is_named, opened, closed, is_some_open, rows_in, text_last, put_in}
 use Rattle.doc_table.proofs.SpineLaws.{rows-opened, rows-closed}
 use Rattle.doc_shred.specs.Content.{Text}
 use Rattle.doc_shred.specs.Parsers.{Parser, strip, need, give, repeat, ◌>>=◌, ◌>>◌}
@@ -14,10 +13,10 @@ use Rattle.doc_shred.specs.Markup.{Tag}
 use Rattle.doc_shred.specs.Reading as r
 use Rattle.doc_shred.specs.Walk as w
 use Rattle.doc_shred.specs.Walk.{Walk, starts, step, open_node}
-use Rattle.doc_shred.specs.Standing.{Texts, seen, IsLater, AttributesAdded, none_text, Walked, Takes, Starts, label_set, nodes_set, with_attributes}
+use Rattle.doc_shred.specs.Standing.{Texts, seen, IsLater, AttributesAdded, none_text, Walked, Starts, with_attributes}
 use Rattle.doc_shred.proofs.Exact.{word_exact}
 use Rattle.doc_shred.proofs.Lexical.{name_exact, name_narrow}
-use Rattle.doc_shred.proofs.Spines.{text_kept, later_self, later_later, last_put, put_tags, open_seen, closed_seen}
+use Rattle.doc_shred.proofs.Spines.{text_kept, later_later, last_put, put_tags, closed_seen}
 
 -- ---- names that differ
 

@@ -1,17 +1,15 @@
 -- Attributes and tags are read as their productions say.
-use Rattle.std.proofs.Common.{◌≡◌, ℕ, zero, suc, ◌+◌, ◌<◌, ◌≤◌, Bool, true, false, not, ◌||◌, ◌&&◌, cond, nat_eq, List, [], ◌∷◌, ◌++◌, length, map, codes, ◌⊎◌, inl, inr, refl, sym, ap, ◌∙◌, subst, arith, true≢false, Option, Some, None, option_and_then, append-nil, append_assoc}
+use Rattle.std.proofs.Common.{◌≡◌, ℕ, zero, suc, ◌+◌, ◌<◌, Bool, true, false, not, ◌||◌, ◌&&◌, cond, nat_eq, List, [], ◌∷◌, ◌++◌, length, codes, inl, inr, refl, sym, ap, ◌∙◌, subst, arith, true≢false, Option, Some, option_and_then, append-nil, append_assoc}
 use Rattle.std.specs.Str.{bytes_eq}
-use Rattle.std.proofs.lemmas.Bool.{eqb-true}
 use Rattle.std.proofs.lemmas.Option.{same_Some}
 use Rattle.xq_base.specs.Chars.{is_name_start, is_name_char}
-use Rattle.doc_table.specs.Sound.{names_differ}
-use Rattle.doc_shred.specs.Rules.{Rule, IsThen, ◌▷=◌, ◌▷◌, gives, where_, ◌or◌, word, many, IsMany, starts, begins, before, IsRunOf, any_of, some_of, Each}
-use Rattle.doc_shred.specs.Parsers.{Parser, after_run, run, strip}
-use Rattle.doc_shred.specs.Classes.{is_blank, are_chars, is_name_text, is_name_byte, is_data_byte, are_data, is_value_byte, to_blank}
+use Rattle.doc_shred.specs.Rules.{◌▷◌, gives, ◌or◌, word, IsMany, starts, begins, before, IsRunOf}
+use Rattle.doc_shred.specs.Parsers.{run}
+use Rattle.doc_shred.specs.Classes.{is_blank, is_name_text, is_name_byte, is_data_byte, is_value_byte}
 use Rattle.doc_shred.specs.Markup as g
 use Rattle.doc_shred.specs.Reading as r
-use Rattle.doc_shred.proofs.Exact.{Exact, bound, chosen, then_exact, after_exact, give_exact, need_exact, or_exact, word_exact, any_of_exact, some_of_exact, before_exact, repeat_exact, begins_front, run_again, Strict, Narrow, then_narrow, then_strict, or_narrow, or_strict, gives_narrow, where_narrow, word_narrow, word_strict, any_of_narrow, some_of_narrow, some_of_strict, before_narrow, many_narrow, same_byte}
-use Rattle.doc_shred.proofs.Lexical.{name_exact, equals_exact, reference_exact, reference_strict, reference_starts, cdata_exact, value_part_exact, value_part_strict, IsQuote, other, not_begins, row, row_begins, name_narrow, equals_narrow}
+use Rattle.doc_shred.proofs.Exact.{Exact, bound, chosen, then_exact, after_exact, give_exact, need_exact, or_exact, word_exact, any_of_exact, some_of_exact, repeat_exact, begins_front, run_again, Strict, Narrow, then_narrow, then_strict, or_narrow, or_strict, gives_narrow, where_narrow, word_narrow, word_strict, any_of_narrow, some_of_strict, before_narrow, many_narrow, same_byte}
+use Rattle.doc_shred.proofs.Lexical.{name_exact, equals_exact, reference_exact, reference_strict, reference_starts, cdata_exact, value_part_exact, value_part_strict, IsQuote, name_narrow, equals_narrow}
 
 -- ---- values
 

@@ -1,9 +1,9 @@
 -- From what the loop reads to what the grammar says.
-use Rattle.std.proofs.Common.{◌≡◌, ℕ, ◌+◌, ◌-◌, ◌<◌, ◌≤◌, ◌^◌, Bool, true, false, nat_lt, List, [], ◌∷◌, length, map, Option, Some, None, refl, sym, ap, ◌∙◌, subst, arith, true≢false}
+use Rattle.std.proofs.Common.{◌≡◌, ℕ, ◌+◌, ◌<◌, ◌≤◌, true, false, nat_lt, List, [], ◌∷◌, length, map, Some, None, refl, sym, ap, ◌∙◌, subst, arith, true≢false}
 use Rattle.std.proofs.lemmas.Option.{same_Some}
 use Rattle.std.proofs.lemmas.Bool.{ltb-true, lt-ltb}
 use Rattle.xq_base.specs.declared.item.TextId.{TextId}
-use Rattle.doc_table.specs.Tree.{Tree, Forest, Branch, OfDocument, forest_of, text_in, tree_with, with_texts}
+use Rattle.doc_table.specs.Tree.{Tree, Branch, OfDocument, forest_of, text_in, with_texts}
 use Rattle.doc_table.specs.Spine.{Open, Spine, closed, close_in, tree_of, open_with}
 use Rattle.doc_table.proofs.SpineLaws.{tree-with}
 use Rattle.doc_shred.specs.declared.refusal.ShredFault.{ShredFault}

@@ -5,7 +5,7 @@ use Rattle.std.specs.Str.{is_utf8, chars, bytes_eq, str_to_ascii_lowercase}
 use Rattle.std.specs.Int.{is_in_range}
 use Rattle.std.specs.Char.{digit_value, is_ascii_digit, is_ascii_hexdigit, is_ascii_alphabetic, is_ascii_alphanumeric}
 use Rattle.xq_base.specs.Chars.{is_char, is_name, is_name_char}
-use Rattle.doc_shred.specs.Rules.{starts, holds}
+use Rattle.doc_shred.specs.Rules.{holds}
 
 -- white space: blank, tab, carriage return, line feed (XML 1.0, section 2.3, production 3)
 abbrev pub is_blank : ℕ → Bool

@@ -1,8 +1,7 @@
 -- Elements and their content, by the tree that they stand for (XML 1.0, section 3).
-use Rattle.std.specs.Prelude.{◌≡◌, ℕ, suc, max, Bool, true, false, List, [], ◌∷◌, ◌⊎◌}
-use Rattle.doc_table.specs.Tree.{Label, OfDocument, OfElement, OfAttribute, OfText, OfComment, OfInstruction, Tree, Forest, Branch, no_more, one_more}
-use Rattle.doc_shred.specs.Rules.{Rule}
-use Rattle.doc_shred.specs.Markup.{Tag, comment, instruction, start, end_tag, text_run}
+use Rattle.std.specs.Prelude.{◌≡◌, ℕ, true, false, List, [], ◌∷◌, ◌⊎◌}
+use Rattle.doc_table.specs.Tree.{OfDocument, OfElement, OfAttribute, OfText, OfComment, OfInstruction, Tree, Forest, Branch, no_more, one_more}
+use Rattle.doc_shred.specs.Markup.{comment, instruction, start, end_tag, text_run}
 
 abbrev pub Text : Type 0
 Text = List ℕ

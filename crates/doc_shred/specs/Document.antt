@@ -1,6 +1,6 @@
 -- XML documents, as a relation between bytes and trees, and what isn't read (XML 1.0, sections 2.1, 2.8 and 2.11).
-use Rattle.std.specs.Prelude.{◌≡◌, ℕ, suc, ◌<◌, max, Bool, true, false, ◌==◌, if◌then◌else◌, List, [], ◌∷◌, ◌++◌, ◌⊎◌, Option, Some, None, drop}
-use Rattle.doc_table.specs.Tree.{OfDocument, OfElement, Label, Tree, Forest, Branch, no_more, one_more, forest_of}
+use Rattle.std.specs.Prelude.{◌≡◌, ℕ, suc, ◌<◌, max, Bool, true, false, ◌==◌, if◌then◌else◌, List, [], ◌∷◌, ◌++◌, ◌⊎◌, Some, drop}
+use Rattle.doc_table.specs.Tree.{OfDocument, OfElement, Tree, Forest, Branch, no_more, one_more, forest_of}
 use Rattle.doc_shred.specs.Rules.{Rule, ◌▷=◌, ◌▷◌, gives, where_, ◌or◌, many, begins}
 use Rattle.doc_shred.specs.Classes.{is_known_encoding}
 use Rattle.doc_shred.specs.Prolog.{declaration, doctype, misc}

@@ -1,5 +1,5 @@
 -- The productions of markup and of character data (XML 1.0, sections 2.3 to 2.7, 3.1 and 4.1).
-use Rattle.std.specs.Prelude.{◌≡◌, ℕ, Bool, true, false, not, ◌&&◌, List, [], ◌∷◌, ◌++◌, map, codes}
+use Rattle.std.specs.Prelude.{ℕ, Bool, true, false, not, List, [], ◌∷◌, ◌++◌, map, codes}
 use Rattle.std.specs.Char.{encode_utf8, is_ascii_digit, is_ascii_hexdigit}
 use Rattle.std.specs.Str.{bytes_eq}
 use Rattle.xq_base.specs.Chars.{is_char}

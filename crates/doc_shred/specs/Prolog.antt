@@ -1,8 +1,8 @@
 -- The productions of what stands before and after the root element (XML 1.0, section 2.8).
-use Rattle.std.specs.Prelude.{◌≡◌, ℕ, Bool, true, false, not, ◌&&◌, ◌==◌, List, [], ◌∷◌, Option, Some, None, codes}
+use Rattle.std.specs.Prelude.{ℕ, not, ◌&&◌, ◌==◌, List, [], ◌∷◌, Option, Some, None, codes}
 use Rattle.std.specs.Char.{is_ascii_digit, is_ascii_alphabetic}
 use Rattle.doc_table.specs.Tree.{Tree, Branch, OfComment, OfInstruction, no_more}
-use Rattle.doc_shred.specs.Rules.{Rule, ◌▷=◌, ◌▷◌, gives, where_, ◌or◌, word, many, any_of, some_of, starts}
+use Rattle.doc_shred.specs.Rules.{Rule, ◌▷=◌, ◌▷◌, gives, where_, ◌or◌, word, any_of, some_of, starts}
 use Rattle.doc_shred.specs.Classes.{are_chars, is_encoding_byte, is_public_byte}
 use Rattle.doc_shred.specs.Markup.{space, spaces, name, equals, comment, instruction}
 

@@ -1,5 +1,5 @@
 -- Refusals, and what is known of a builder when a part of a document was read or refused.
-use Rattle.std.specs.Prelude.{ℕ, ◌≡◌, ◌+◌, ◌≤◌, ◌==◌, Bool, true, false, List, [], ◌∷◌, length, Option, Some, None, Result, Ok, Err}
+use Rattle.std.specs.Prelude.{ℕ, ◌≡◌, ◌+◌, ◌≤◌, true, false, List, [], length, Some, None}
 use Rattle.xq_base.specs.declared.item.TextId.{TextId}
 use Rattle.doc_table.specs.Spine.{Spine, rows_in}
 use Rattle.doc_shred.specs.declared.fault.Fault.{Fault}

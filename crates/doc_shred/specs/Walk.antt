@@ -1,11 +1,11 @@
 -- Content as the loop of the code reads it: piece after piece, with the open elements, the innermost first.
-use Rattle.std.specs.Prelude.{ℕ, zero, suc, ◌+◌, ◌==◌, ◌||◌, not, Bool, true, false, List, [], ◌∷◌, ◌++◌, length, codes, Option, Some, None, option_and_then, if◌then◌else◌}
+use Rattle.std.specs.Prelude.{ℕ, zero, suc, ◌+◌, ◌==◌, ◌||◌, not, Bool, false, List, [], ◌∷◌, ◌++◌, length, codes, Option, Some, None, option_and_then, if◌then◌else◌}
 use Rattle.std.specs.Str.{bytes_eq}
-use Rattle.doc_table.specs.Tree.{Label, OfDocument, OfElement, OfText, OfComment, OfInstruction, Tree, Forest, Branch, no_more, one_more, forest_of}
+use Rattle.doc_table.specs.Tree.{Label, OfDocument, OfElement, OfText, OfComment, OfInstruction, Tree, Branch, no_more}
 use Rattle.doc_table.specs.Spine.{Open, tree_of, is_named}
 use Rattle.doc_shred.specs.Rules.{begins, starts as starts_with}
 use Rattle.doc_shred.specs.Classes.{is_blank, is_known_encoding}
-use Rattle.doc_shred.specs.Parsers.{Parser, ◌>>=◌, ◌>>◌, give, need, choose}
+use Rattle.doc_shred.specs.Parsers.{Parser, ◌>>=◌, give, choose}
 use Rattle.doc_shred.specs.Markup.{Tag}
 use Rattle.doc_shred.specs.Reading.{comment, instruction, start, end_tag, text_run, misc, declaration, doctype, attribute, has_attribute}
 use Rattle.doc_shred.specs.Content.{Text}

@@ -1,4 +1,4 @@
-use Rattle.std.proofs.Common.{◌≡◌, ◌+◌, length, string_bytes, sym, ap, ◌∙◌, arith, rules, true, false, [], ◌∷◌, Some, None}
+use Rattle.std.proofs.Common.{◌≡◌, ◌+◌, length, string_bytes, arith, rules, true, false}
 use Rattle.doc_shred.specs.Parsers.{fronted}
 use Rattle.doc_shred.specs.Reading as r
 use Rattle.doc_shred.proofs.Gathering.{text_goes_on, text_refused, text_ends, text_no_turn}

@@ -1,6 +1,5 @@
-use Rattle.std.proofs.Common.{◌≡◌, subst, sym, ap, ◌∙◌, arith, rules, true, false, Err, [], length}
+use Rattle.std.proofs.Common.{subst, sym, ap, arith, Err}
 use Rattle.std.proofs.lemmas.Grind.{common_steps}
-use Rattle.doc_shred.specs.declared.fault.Fault.TheVariants.{Malformed}
 use Rattle.doc_shred.specs.Refusals.{DocumentRefused}
 use Rattle.doc_shred.proofs.PrologSteps.{no_prolog, no_root, no_last, something_left, document_read, empty_list, filled_list}
 use Rattle.doc_shred.proofs.document.document.Goals as goal

@@ -1,6 +1,4 @@
-use Rattle.std.proofs.Common.{◌≡◌, sym, ap, ◌∙◌, rules, true, false, codes}
-use Rattle.doc_shred.specs.Rules.{starts, begins}
-use Rattle.doc_shred.specs.Classes.{is_blank}
+use Rattle.std.proofs.Common.{sym, ◌∙◌}
 use Rattle.doc_shred.specs.Views.{Lent}
 use Rattle.doc_shred.specs.Standing.{CommentAdded, InstructionAdded, MiscAdded}
 use Rattle.doc_shred.proofs.Passes.{if_ok}

@@ -1,4 +1,4 @@
-use Rattle.std.proofs.Common.{◌≡◌, ◌+◌, length, sym, ◌∙◌, arith, rules, true, false}
+use Rattle.std.proofs.Common.{◌≡◌, ◌+◌, length, arith, rules, true, false}
 use Rattle.doc_shred.specs.Walk.{has_misc}
 use Rattle.doc_shred.proofs.MiscLaws.{among_goes_on, among_refused, among_ends, among_no_turn}
 use Rattle.doc_shred.proofs.document.miscs.Goals as goal

@@ -1,10 +1,8 @@
-use Rattle.std.proofs.Common.{◌≡◌, ◌-◌, ◌^◌, length, subst, sym, ap, ◌∙◌, arith, rules, true, false, Err}
-use Rattle.doc_shred.specs.declared.fault.Fault.TheVariants.{Malformed}
-use Rattle.doc_shred.specs.declared.refusal.ShredFault.{ShredFault}
+use Rattle.std.proofs.Common.{◌≡◌, ◌-◌, ◌^◌, length, subst, sym, ap, ◌∙◌, arith, false, Err}
 use Rattle.doc_shred.specs.Views.{Lent}
 use Rattle.doc_shred.specs.Walk as w
 use Rattle.doc_shred.specs.Standing.{MiscsRead, NoMiscs}
-use Rattle.doc_shred.specs.Refusals.{refusal_of, TypeRead, TypeRefused, PrologRead, PrologRefused}
+use Rattle.doc_shred.specs.Refusals.{TypeRead, TypeRefused, PrologRead, PrologRefused}
 use Rattle.doc_shred.proofs.Passes.{if_ok, if_err}
 use Rattle.doc_shred.proofs.PrologSteps.{head_room, unknown_refused, miscs_refused, typed_room, prolog_read, prolog_refused}
 use Rattle.doc_shred.proofs.document.prolog.Goals as goal

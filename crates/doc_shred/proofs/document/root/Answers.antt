@@ -1,4 +1,4 @@
-use Rattle.std.proofs.Common.{◌≡◌, [], subst, arith, rules}
+use Rattle.std.proofs.Common.{[], subst, arith}
 use Rattle.doc_shred.specs.Views.{Lent}
 use Rattle.doc_shred.specs.Standing.{ContentRead, RootRead, Walked, Starts}
 use Rattle.doc_shred.proofs.Passes.{if_ok}

@@ -1,4 +1,4 @@
-use Rattle.std.proofs.Common.{◌≡◌, ◌-◌, ◌^◌, sym, ap, ◌∙◌, arith, rules, true, false, Some, codes, nat_eq}
+use Rattle.std.proofs.Common.{◌≡◌, ◌-◌, ◌^◌, arith, rules, true, false, Some, codes, nat_eq}
 use Rattle.doc_shred.specs.Rules.{begins}
 use Rattle.doc_shred.specs.Reading as r
 use Rattle.doc_shred.proofs.PrologSteps.{untyped, doctype_room, doctype_read}

@@ -1,4 +1,4 @@
-use Rattle.std.proofs.Common.{◌≡◌, sym, ap, ◌∙◌, arith, rules, Some, drop}
+use Rattle.std.proofs.Common.{sym, ap, ◌∙◌, arith, rules}
 use Rattle.doc_shred.specs.Parsers.{strip}
 use Rattle.doc_shred.specs.Views.{silent}
 use Rattle.doc_shred.proofs.Runs.{search_goes_on, search_found, search_ends, whole_rest}

@@ -1,5 +1,5 @@
-use Rattle.std.proofs.Common.{◌≡◌, sym, ap, ◌∙◌, arith, rules, true, false, ◌||◌, drop}
-use Rattle.doc_shred.specs.Rules.{holds, begins}
+use Rattle.std.proofs.Common.{◌≡◌, sym, ap, ◌∙◌, arith, true, false, drop}
+use Rattle.doc_shred.specs.Rules.{begins}
 use Rattle.doc_shred.proofs.Runs.{holds_here, holds_nowhere, whole_rest}
 use Rattle.doc_shred.proofs.markup.has_word.Goals as goal
 

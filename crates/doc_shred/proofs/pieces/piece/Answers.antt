@@ -1,4 +1,4 @@
-use Rattle.std.proofs.Common.{◌≡◌, sym, ap, ◌∙◌, rules, true, false, codes}
+use Rattle.std.proofs.Common.{◌≡◌, sym, ◌∙◌, rules, true, false, codes}
 use Rattle.doc_shred.specs.Rules.{begins}
 use Rattle.doc_shred.specs.Views.{Lent}
 use Rattle.doc_shred.specs.Walk.{marked}

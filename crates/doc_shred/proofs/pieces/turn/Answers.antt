@@ -1,4 +1,4 @@
-use Rattle.std.proofs.Common.{◌≡◌, arith, rules}
+use Rattle.std.proofs.Common.{arith}
 use Rattle.doc_shred.specs.Views.{Lent}
 use Rattle.doc_shred.specs.Walk.{marked, texted}
 use Rattle.doc_shred.specs.Standing.{Passed}

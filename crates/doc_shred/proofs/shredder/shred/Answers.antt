@@ -1,7 +1,7 @@
-use Rattle.std.proofs.Common.{◌≡◌, length, sym, ap, ◌∙◌, arith, rules, true, false, Some, Err}
+use Rattle.std.proofs.Common.{◌≡◌, sym, ap, ◌∙◌, arith}
 use Rattle.doc_table.specs.Tree.{with_texts}
-use Rattle.doc_shred.specs.declared.refusal.ShredFault.TheVariants.{NotWellFormed, Unsupported, TooDeep}
-use Rattle.doc_shred.specs.Document.{text_of, lines_joined}
+use Rattle.doc_shred.specs.declared.refusal.ShredFault.TheVariants.{NotWellFormed, Unsupported}
+use Rattle.doc_shred.specs.Document.{lines_joined}
 use Rattle.doc_shred.proofs.Whole.{text_fits, unsupported_cause, malformed_cause, supported, whole_tree, level_kept, level_passed}
 use Rattle.doc_shred.proofs.shredder.shred.Goals as goal
 

@@ -1,7 +1,7 @@
-use Rattle.std.proofs.Common.{◌≡◌, ◌+◌, length, sym, ap, ◌∙◌, arith, rules, true, false, ⊎_elim}
+use Rattle.std.proofs.Common.{◌≡◌, ◌+◌, length, arith, rules, true, false, ⊎_elim}
 use Rattle.doc_shred.specs.Reading as r
 use Rattle.doc_shred.proofs.Spines.{later_later}
-use Rattle.doc_shred.proofs.AttributeLaws.{so_far_takes, so_far_goes_on, so_far_missing, so_far_twice, so_far_ends, so_far_no_turn}
+use Rattle.doc_shred.proofs.AttributeLaws.{so_far_goes_on, so_far_missing, so_far_twice, so_far_ends, so_far_no_turn}
 use Rattle.doc_shred.proofs.tags.add_attributes.Goals as goal
 
 pub returns-then-not-has_attribute-clause-added : goal.returns-then-not-has_attribute-clause-added

@@ -1,5 +1,4 @@
-use Rattle.std.proofs.Common.{◌≡◌, ◌+◌, ◌-◌, length}
-use Rattle.xq_base.specs.Pool.{NoRepeats}
+use Rattle.std.proofs.Common.{◌+◌, ◌-◌, length}
 use Rattle.doc_shred.specs.Standing.{IsLater}
 use Rattle.doc_shred.proofs.AttributeLaws.{IsSoFar}
 use Rattle.doc_shred.proofs.tags.add_attributes.Given as goal

@@ -1,4 +1,4 @@
-use Rattle.std.proofs.Common.{◌≡◌, ◌+◌, ◌∷◌, [], length, map, sym, ap, ◌∙◌, arith, rules, true, false, Some, None, codes, slice_get}
+use Rattle.std.proofs.Common.{◌≡◌, ◌∷◌, [], map, arith, rules, true, false, Some, None, codes, slice_get}
 use Rattle.doc_table.specs.Tree.{OfElement, pair_with, text_in}
 use Rattle.doc_table.specs.Spine.{opened}
 use Rattle.doc_shred.specs.Parsers.{strip}

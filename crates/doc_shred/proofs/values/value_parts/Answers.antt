@@ -1,6 +1,5 @@
-use Rattle.std.proofs.Common.{◌≡◌, ◌+◌, length, string_bytes, sym, ap, ◌∙◌, arith, rules, true, false, [], ◌∷◌, Some, None}
+use Rattle.std.proofs.Common.{◌≡◌, ◌+◌, length, string_bytes, arith, rules, true, false, [], ◌∷◌, Some, None}
 use Rattle.doc_shred.specs.Parsers.{strip, fronted}
-use Rattle.doc_shred.specs.Views.{silent}
 use Rattle.doc_shred.specs.Reading as r
 use Rattle.doc_shred.proofs.Gathering.{value_goes_on, value_refused, value_ends, value_open, value_no_turn}
 use Rattle.doc_shred.proofs.Passing.{passed_on}
