@@ -11,3 +11,5 @@ pub mod Steps
 pub mod Looks
 pub mod Finds
 pub mod SpineLaws
+pub mod Subtrees
+pub mod OtherTexts

@@ -12,5 +12,6 @@ pub mod Codes
 pub mod Kept
 pub mod Growth
 pub mod Stores
+pub mod Given
 pub mod Notes
 pub mod Account

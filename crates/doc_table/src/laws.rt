@@ -1,3 +1,4 @@
+//! Laws of trees and their rows, as calls without a body.
 ghost use Rattle.std.specs.Prelude.{List, ℕ};
 ghost use Rattle.xq_base.specs.declared.item.TextId.{TextId};
 ghost use Rattle.doc_table.specs.Places.{Bridge, ChildrenStand};

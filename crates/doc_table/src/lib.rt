@@ -13,6 +13,8 @@ mod made;
 mod none;
 mod rows;
 mod store;
+#[cfg(test)]
+mod tests;
 
 pub use builder::FragmentBuilder;
 pub use fragment::Fragment;

@@ -1,3 +1,4 @@
+//! Rows as joins read them.
 ghost use Rattle.std.specs.Prelude.{◌≡◌, ◌<◌, ◌-◌, ◌^◌, length, IfOk};
 ghost use Rattle.xq_base.specs.declared.item.TextId.{TextId};
 ghost use Rattle.doc_table.specs.Tree.{Tree};

@@ -1,0 +1,5 @@
+pub mod Lists
+pub mod Closes
+pub mod Walks
+pub mod Trees
+pub mod Nodes
