@@ -5,6 +5,7 @@ pub mod Contents
 pub mod Depths
 pub mod Documents
 pub mod Exact
+pub mod Examples
 pub mod Forests
 pub mod Gathering
 pub mod Lexical
