@@ -1,0 +1,13 @@
+pub mod Classes
+pub mod Content
+pub mod Document
+pub mod Markup
+pub mod Outcomes
+pub mod Parsers
+pub mod Prolog
+pub mod Reading
+pub mod Refusals
+pub mod Rules
+pub mod Standing
+pub mod Views
+pub mod Walk

@@ -1,0 +1,25 @@
+//! From the bytes of an XML document to its tree as a table: what goes in are bytes, what comes out
+//! is a fragment, or the one reason why there is none.
+#![tactic(auto)]
+
+mod bytes;
+mod content;
+mod depth;
+mod document;
+mod fault;
+mod laws;
+mod lines;
+mod markup;
+mod names;
+mod pieces;
+mod prolog;
+mod references;
+mod refusal;
+mod shredder;
+mod tags;
+mod texts;
+mod values;
+
+pub use laws::one_tree;
+pub use refusal::ShredFault;
+pub use shredder::shred;
