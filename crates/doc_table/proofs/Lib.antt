@@ -1,0 +1,5 @@
+pub mod Marks
+pub mod ByRows
+pub mod Ways
+pub mod Kids
+pub mod Orders

@@ -1,0 +1,15 @@
+pub mod Tree
+pub mod Paths
+pub mod Enc
+pub mod Axes
+pub mod Places
+pub mod Identity
+pub mod Items
+pub mod Touched
+pub mod Spine
+pub mod Sound
+pub mod Codes
+pub mod Kept
+pub mod Growth
+pub mod Notes
+pub mod Account
