@@ -3,3 +3,8 @@ pub mod ByRows
 pub mod Ways
 pub mod Kids
 pub mod Orders
+pub mod Closing
+pub mod KeptRows
+pub mod SpineRows
+pub mod Soundness
+pub mod Steps
