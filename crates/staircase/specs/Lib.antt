@@ -1,0 +1,4 @@
+pub mod Ahead
+pub mod Passes
+pub mod Seen
+pub mod Tests

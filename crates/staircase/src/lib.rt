@@ -1,0 +1,12 @@
+//! The step of a path over one fragment, for all iterations at once: a context and a fragment's rows go
+//! in, the nodes on an axis come out.
+#![tactic(auto)]
+
+mod ahead;
+mod kinds;
+mod own;
+mod read;
+mod seen;
+mod test;
+
+pub use kinds::{Ctx, Tally};
