@@ -1,3 +1,4 @@
 pub mod Coming
+pub mod Passing
 pub mod Picks
 pub mod Reading

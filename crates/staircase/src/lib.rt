@@ -2,7 +2,10 @@
 //! in, the nodes on an axis come out.
 #![tactic(auto)]
 
+mod after;
 mod ahead;
+mod before;
+mod down;
 mod kinds;
 mod own;
 mod read;

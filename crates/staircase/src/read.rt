@@ -1,5 +1,5 @@
 //! The one pass over a fragment's rows in which a join reads all that it touches.
-ghost use Rattle.std.specs.Prelude.{◌≡◌, ◌+◌, ◌<◌, ◌-◌, ◌^◌, ℕ, Bool, true, length, map, OnOk, IfOk};
+ghost use Rattle.std.specs.Prelude.{◌≡◌, ◌+◌, ◌<◌, ◌≤◌, ◌-◌, ◌^◌, ℕ, Bool, true, length, map, OnOk, IfOk};
 ghost use Rattle.xq_base.specs.declared.item.TextId.{TextId};
 ghost use Rattle.doc_table.specs.Tree.{Tree};
 ghost use Rattle.doc_table.specs.Enc.{enc};
@@ -28,7 +28,8 @@ pub(crate) trait Pass {
 
     /// Takes note of a row that was read.
     fn enter(&mut self, seen: Seen) -> Result<(), Want>
-        requires { seen.last < 2 ^ 32 - 1 }
+        requires last { seen.last < 2 ^ 32 - 1 }
+        requires pre { seen.pre ≤ seen.last }
         ensures same { (t : Tree TextId) (v : ℕ) → wants self.new t v ≡ wants self.old t v }
         ensures knows { OnOk result ((t : Tree TextId) → seen.pre < length (enc t) → wants self.old t seen.pre ≡ true → IsRowOf t seen → knows self.old t seen.pre → knows self.new t (seen.pre + 1)) };
 }

@@ -46,8 +46,8 @@ returns-then-is_err-clause-notes g c =
     let n = subst (λ z. NextIs (g.P.Pass.wants c.loop-seen.pass t) (g.P.Pass.knows c.next.new.self t) c.loop-seen.from z (Some c.in-Some.at)) c.len-total.ensures (c.in-Some.ensures.next t (sym c.len-total.ensures) c.loop-seen.invariant.known) in
     read-part t c.args.frag c.args.site c.args.axis c.args.test (g.P.Pass.wants c.args.pass.now t) (g.P.Pass.wants c.loop-seen.pass t) (g.P.Pass.knows c.loop-seen.pass t) (g.P.Pass.knows c.next.new.self t) c.loop-seen.from c.loop-seen.seen.items c.args.reads.now c.loop-seen.reads c.row.new.reads c.in-Some.at c.loop-seen.invariant n c.in_ok-row-in-Some.ensures.notes
 
-pub enter-requires : goal.enter-requires
-enter-requires g c =
+pub enter-requires-clause-last : goal.enter-requires-clause-last
+enter-requires-clause-last g c =
     let t : Tree TextId = g.R.Rows.tree c.args.rows.now in
     let n = c.in-Some.ensures.next t (sym c.len-total.ensures) c.loop-seen.invariant.known in
     let fits : c.in-Some.at + c.in_ok-row-in-Some.row.size < 4294967295 = size-fits t c.in-Some.at c.in_ok-row-in-Some.row c.in_ok-row-in-Some.ensures.row (omega (arith, n.1, c.len-total.ensures)) c.len-total.result c.len-total.ensures c.len-total.type_inv in
@@ -68,3 +68,9 @@ loop-seen-preserved g c =
     read-more t c.args.frag c.args.site c.args.axis c.args.test (g.P.Pass.wants c.args.pass.now t) (g.P.Pass.wants c.loop-seen.pass t) (g.P.Pass.wants c.enter.new.self t) (g.P.Pass.knows c.loop-seen.pass t) (g.P.Pass.knows c.next.new.self t) (g.P.Pass.knows c.enter.new.self t) c.loop-seen.from c.loop-seen.seen.items c.args.reads.now c.loop-seen.reads c.row.new.reads c.in-Some.at c.in_ok-row-in-Some.row c.seen_row-one.result c.push.new.self.items
       c.loop-seen.invariant n c.in_ok-row-in-Some.ensures.row c.in_ok-row-in-Some.ensures.notes c.in_ok-row-in-Some.ensures.refuses c.seen_row-one.ensures (search rules) (λ v. c.in_ok-enter-in-Some.ensures.same t v ∙ c.in-Some.ensures.same t v)
       (entered t c.args.axis c.args.test c.in-Some.at c.in_ok-row-in-Some.row c.seen_row-one.result c.seen_row-one.ensures c.in_ok-row-in-Some.ensures.row (g.P.Pass.knows c.next.new.self t) (g.P.Pass.knows c.enter.new.self t) (g.P.Pass.wants c.next.new.self t) (c.in_ok-enter-in-Some.ensures.knows t) n.1 (c.in-Some.ensures.same t c.in-Some.at ∙ n.2) n.3)
+
+pub enter-requires-clause-pre : goal.enter-requires-clause-pre
+enter-requires-clause-pre g c =
+    let pre : c.seen_row-one.result.pre ≡ c.in-Some.at = ap (λ z. z.pre) c.seen_row-one.ensures in
+    let last : c.seen_row-one.result.last ≡ c.in-Some.at + c.in_ok-row-in-Some.row.size = ap (λ z. z.last) c.seen_row-one.ensures in
+    omega arith
