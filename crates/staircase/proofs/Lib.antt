@@ -2,3 +2,4 @@ pub mod Coming
 pub mod Passing
 pub mod Picks
 pub mod Reading
+pub mod Spread

@@ -1,4 +1,5 @@
 pub mod Ahead
+pub mod Hits
 pub mod Passes
 pub mod Seen
 pub mod Tests

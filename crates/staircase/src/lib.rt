@@ -6,6 +6,7 @@ mod after;
 mod ahead;
 mod before;
 mod down;
+mod hits;
 mod kinds;
 mod own;
 mod read;
