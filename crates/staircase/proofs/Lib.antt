@@ -1,4 +1,5 @@
 pub mod Coming
+pub mod Parting
 pub mod Passing
 pub mod Picks
 pub mod Reading

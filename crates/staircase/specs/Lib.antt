@@ -1,5 +1,6 @@
 pub mod Ahead
 pub mod Hits
+pub mod Parts
 pub mod Passes
 pub mod Seen
 pub mod Tests

@@ -9,6 +9,7 @@ mod down;
 mod hits;
 mod kinds;
 mod own;
+mod part;
 mod read;
 mod seen;
 mod test;
