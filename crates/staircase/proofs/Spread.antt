@@ -11,6 +11,7 @@ use Rattle.std.specs.declared.cmp.Ordering.TheVariants.{Less, Equal, Greater}
 use Rattle.std.proofs.lemmas.List.Elements.{Contains-append_left, Contains-append_right, Contains-append_cases}
 use Rattle.std.proofs.lemmas.List.Sorted.{Contains-permutation, IsPermutation-sym}
 use Rattle.staircase.specs.Parts.{In}
+use Rattle.staircase.proofs.Elements.{in-left, in-right}
 use Rattle.staircase.specs.declared.kinds.Ctx.{Ctx}
 use Rattle.staircase.specs.declared.hits.Hit.{Hit}
 use Rattle.staircase.specs.Hits.{before, all_after, Ascending, ctx_of, same_hit, is_last, spread, AppendsHits}
@@ -43,14 +44,6 @@ same-is h k e =
     let q : h.attr ≡ k.attr = eqb-true h.attr k.attr b.0 in
     let r : h.iter ≡ k.iter = eqb-true h.iter k.iter b.1 in
     ap (λ z. record { pre = z; attr = h.attr; iter = h.iter }) p ∙ ap (λ z. record { pre = k.pre; attr = z; iter = h.iter }) q ∙ ap (λ z. record { pre = k.pre; attr = k.attr; iter = z }) r
-
-in-left : {X : Type 0} (x : X) (xs ys : List X) → In x xs → In x (xs ++ ys)
-in-left x [] ys h = absurd h
-in-left x (z ∷ xs) ys h = elim h [ inl e ↦ inl e | inr r ↦ inr (in-left x xs ys r) ]
-
-in-right : {X : Type 0} (x : X) (xs ys : List X) → In x ys → In x (xs ++ ys)
-in-right x [] ys h = h
-in-right x (z ∷ xs) ys h = inr (in-right x xs ys h)
 
 all-out : (last : Option Hit) (hs : List Hit) (h : Hit) → In h hs → (last ≡ Some h) ⊎ In (ctx_of h) (spread last hs)
 all-out last [] h k = absurd k

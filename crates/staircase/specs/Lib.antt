@@ -3,4 +3,5 @@ pub mod Hits
 pub mod Parts
 pub mod Passes
 pub mod Seen
+pub mod Tasks
 pub mod Tests

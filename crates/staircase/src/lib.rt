@@ -12,6 +12,7 @@ mod own;
 mod part;
 mod read;
 mod seen;
+mod task;
 mod test;
 
 pub use kinds::{Ctx, Tally};
