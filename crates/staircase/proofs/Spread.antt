@@ -11,28 +11,10 @@ use Rattle.std.specs.declared.cmp.Ordering.TheVariants.{Less, Equal, Greater}
 use Rattle.std.proofs.lemmas.List.Elements.{Contains-append_left, Contains-append_right, Contains-append_cases}
 use Rattle.std.proofs.lemmas.List.Sorted.{Contains-permutation, IsPermutation-sym}
 use Rattle.staircase.specs.Parts.{In}
-use Rattle.staircase.proofs.Elements.{in-left, in-right}
+use Rattle.staircase.proofs.Elements.{in-left, in-right, in-contains, contains-in}
 use Rattle.staircase.specs.declared.kinds.Ctx.{Ctx}
 use Rattle.staircase.specs.declared.hits.Hit.{Hit}
 use Rattle.staircase.specs.Hits.{before, all_after, Ascending, ctx_of, same_hit, is_last, spread, AppendsHits}
-
--- ---- elements
-
-pub in-contains : {X : Type 0} (x : X) (xs : List X) → In x xs → Contains xs x
-in-contains x [] h = absurd h
-in-contains x (y ∷ ys) h = elim h [
-    inl e ↦ (0, omega arith, sym e)
-  | inr r ↦ (let k = in-contains x ys r in (suc k.0, omega (arith, k.1), k.2))
-  ]
-
-pub contains-in : {X : Type 0} (x : X) (xs : List X) → Contains xs x → In x xs
-
-contains-in x [] h = absurd (omega (arith, h.1))
-contains-in x (y ∷ ys) h = go h.0 h.1 h.2 (λ k. contains-in x ys k)
-  where
-    go : (k : ℕ) → k < length (y ∷ ys) → slice_index_or (y ∷ ys) k x ≡ x → (Contains ys x → In x ys) → In x (y ∷ ys)
-    go zero l e f = inl (sym e)
-    go (suc k) l e f = inr (f (k, omega arith, e))
 
 -- ---- which hits come out
 

@@ -1,14 +1,18 @@
 -- What tasks find.
-use Rattle.std.proofs.Common.{inl, inr, ◌⊎◌, ◌≡◌, ℕ, zero, suc, ◌+◌, ◌-◌, ◌<◌, ◌≤◌, Bool, true, false, not, ◌&&◌, ◌||◌, cond, List, [], ◌∷◌, ◌++◌, length, drop, refl, sym, ap, ◌∙◌, subst, arith, Option, Some, None}
-use Rattle.std.specs.Prelude.{nat_eq, nat_lt, nat_le, is_none}
-use Rattle.std.proofs.lemmas.List.{append-nil, drop_all}
-use Rattle.std.proofs.lemmas.Bool.{eq-eqb, eqb-true, le-ltb, lt-ltb, le-leb, leb-true, ltb-true, and_parts, and_from, false≢true, true≢false}
+use Rattle.std.proofs.Common.{inl, inr, ◌⊎◌, ◌≡◌, ℕ, zero, suc, ◌+◌, ◌-◌, ◌<◌, ◌≤◌, Bool, true, false, not, ◌&&◌, ◌||◌, cond, List, [], ◌∷◌, ◌++◌, length, take, drop, refl, sym, ap, ◌∙◌, subst, arith, Option, Some, None, IsPermutation}
+use Rattle.std.specs.Prelude.{nat_eq, nat_lt, nat_le, is_none, slice_index_or}
+use Rattle.std.proofs.Math.Seq.{take-suc}
+use Rattle.std.proofs.lemmas.List.Sorted.{Contains-permutation, IsPermutation-sym}
+use Rattle.std.proofs.lemmas.List.{append-nil, drop_all, take_all}
+use Rattle.std.proofs.lemmas.Bool.{eq-eqb, ne_eqb, eqb-true, cases_order, le-ltb, lt-ltb, le-leb, leb-true, ltb-true, and_parts, and_from, false≢true, true≢false}
 use Rattle.staircase.specs.declared.hits.Hit.{Hit}
 use Rattle.staircase.specs.declared.seen.Seen.{Seen}
 use Rattle.staircase.specs.declared.task.Task.{Task}
-use Rattle.staircase.specs.Parts.{In, Between}
-use Rattle.staircase.specs.Tasks.{Adds, Finds, found, lets, keeps, in_task, hit_in, covers, limit_covers, at_level, ends_before}
-use Rattle.staircase.proofs.Elements.{in-left, in-right, in-parts}
+use Rattle.staircase.specs.Parts.{In, Between, IsRising, Splits}
+use Rattle.staircase.specs.Made.{row_found}
+use Rattle.staircase.specs.Tasks.{Adds, AddsAll, AllOf, Goes, Finds, found, lets, keeps, in_task, hit_in, covers, limit_covers, at_level, ends_before}
+use Rattle.staircase.proofs.Elements.{in-left, in-right, in-parts, in-contains, contains-in}
+use Rattle.staircase.proofs.Parting.{same-at}
 
 -- at the end of a list all of it came
 pub found-end : (counting : Bool) (task : Task) (out old : List Hit) (k : ℕ) (items : List Seen) → out ++ found counting task (drop k items) ≡ old ++ found counting task items → length items ≤ k → out ≡ old ++ found counting task items
@@ -76,3 +80,73 @@ covered seen counting task other h c f =
     limit None o e r = refl
     limit (Some x) None e r = absurd (false≢true e)
     limit (Some x) (Some y) e r = lt-ltb f.0.last x (omega (arith, leb-true y x e, ltb-true f.0.last y r))
+
+-- ---- one task after the other
+
+pub go-covered : (seen : List Seen) (counting : Bool) (before task : Task) (hits : List Hit) → covers before task ≡ true → AllOf seen counting (Some before) hits → Goes seen counting (Some before) (Some before) task hits hits
+go-covered seen counting before task hits c a = record {
+    adds = record { kept = λ h k. k; sound = λ h k. inl k; complete = λ h f. a h (covered seen counting before task h c f) };
+    all = a
+  }
+
+pub go-done : (seen : List Seen) (counting : Bool) (before : Option Task) (task : Task) (old new : List Hit) → Adds seen counting task old new → Goes seen counting before (Some task) task old new
+go-done seen counting before task old new a = record { adds = a; all = a.complete }
+
+adds-more : (seen : List Seen) (counting : Bool) (tasks : List Task) (task : Task) (old mid new : List Hit) → AddsAll seen counting tasks old mid → Adds seen counting task mid new → AddsAll seen counting (tasks ++ task ∷ []) old new
+adds-more seen counting tasks task old mid new a b = record {
+    kept = λ h k. b.kept h (a.kept h k);
+    sound = λ h k. elim (b.sound h k) [
+        inl m ↦ elim (a.sound h m) [ inl o ↦ inl o | inr t ↦ inr (t.0, in-left t.0 tasks (task ∷ []) t.1, t.2) ]
+      | inr f ↦ inr (task, in-right task tasks (task ∷ []) (inl refl), f)
+      ];
+    complete = λ t i h f. elim (in-parts t tasks (task ∷ []) i) [
+        inl x ↦ b.kept h (a.complete t x h f)
+      | inr y ↦ elim y [ inl e ↦ b.complete h (subst (λ (z : Task). Finds seen counting z h) e f) | inr z ↦ absurd z ]
+      ]
+  }
+
+pub adds-step : (seen : List Seen) (counting : Bool) (ts : List Task) (k : ℕ) (task : Task) (d : Task) (old mid new : List Hit) → k < length ts → task ≡ slice_index_or ts k d → AddsAll seen counting (take k ts) old mid → Adds seen counting task mid new → AddsAll seen counting (take (k + 1) ts) old new
+adds-step seen counting ts k task d old mid new l e a b =
+    let one : k + 1 ≡ suc k = omega arith in
+    let more : take (k + 1) ts ≡ take k ts ++ task ∷ [] = ap (λ z. take z ts) one ∙ take-suc ts k d l ∙ ap (λ (z : Task). take k ts ++ z ∷ []) (sym e) in
+    subst (λ z. AddsAll seen counting z old new) (sym more) (adds-more seen counting (take k ts) task old mid new a b)
+
+pub adds-none : (seen : List Seen) (counting : Bool) (ts : List Task) (old : List Hit) → AddsAll seen counting (take 0 ts) old old
+adds-none seen counting ts old = record { kept = λ h k. k; sound = λ h k. inl k; complete = λ t i h f. absurd (none t ts i) }
+  where
+    none : (t : Task) (ts : List Task) → In t (take 0 ts) → ⊥
+    none t [] i = i
+    none t (x ∷ ts) i = i
+
+pub adds-whole : (seen : List Seen) (counting : Bool) (tasks ts : List Task) (k : ℕ) (old new : List Hit) → IsPermutation tasks ts → length ts ≤ k → AddsAll seen counting (take k ts) old new → AddsAll seen counting tasks old new
+adds-whole seen counting tasks ts k old new p l a =
+    let whole : take k ts ≡ ts = take_all k ts l in
+    record {
+      kept = a.kept;
+      sound = λ h i. elim (a.sound h i) [
+          inl o ↦ inl o
+        | inr t ↦ inr (t.0, contains-in t.0 tasks (Contains-permutation ts tasks t.0 (IsPermutation-sym tasks ts p) (in-contains t.0 ts (subst (λ z. In t.0 z) whole t.1))), t.2)
+        ];
+      complete = λ t i h f. a.complete t (subst (λ z. In t z) (sym whole) (contains-in t ts (Contains-permutation tasks ts t p (in-contains t tasks i)))) h f
+    }
+
+-- ---- the row of a node
+
+pub row-found_at : (seen : List Seen) (k pre : ℕ) (d : Seen) → IsRising seen → k < length seen → (slice_index_or seen k d).pre ≡ pre → row_found seen pre ≡ Some (slice_index_or seen k d)
+row-found_at [] k pre d r l e = absurd (omega arith)
+row-found_at (s ∷ ss) zero pre d r l e = rw (eq-eqb s.pre pre e) refl
+row-found_at (s ∷ ss) (suc k) pre d r l e =
+    let first = r 0 (suc k) d (omega arith) l in
+    rw (ne_eqb s.pre pre (λ q. omega (arith, first))) (row-found_at ss k pre d (λ i j f h m. r (suc i) (suc j) f (omega arith) (omega arith)) (omega arith) e)
+
+pub row-found_none : (seen : List Seen) (pre : ℕ) → ((k : ℕ) (d : Seen) → k < length seen → (slice_index_or seen k d).pre ≡ pre → ⊥) → row_found seen pre ≡ None
+row-found_none [] pre f = refl
+row-found_none (s ∷ ss) pre f = rw (ne_eqb s.pre pre (λ e. f 0 s (omega arith) e)) (row-found_none ss pre (λ k d l e. f (suc k) d (omega arith) e))
+
+pub no-row : (seen : List Seen) (pre place : ℕ) (d : Seen) → IsRising seen → Splits seen pre place place → (place < length seen → (slice_index_or seen place d).pre ≡ pre → ⊥) → row_found seen pre ≡ None
+no-row seen pre place d r s n = row-found_none seen pre (λ k e l q. other k e l q (cases_order k place))
+  where
+    other : (k : ℕ) (e : Seen) → k < length seen → (slice_index_or seen k e).pre ≡ pre → (k ≡ place) ⊎ ((k < place) ⊎ (place < k)) → ⊥
+    other k e l q (inl x) = n (omega arith) (ap (λ z. (slice_index_or seen z d).pre) (sym x) ∙ ap (λ (z : Seen). z.pre) (same-at seen k d e l) ∙ q)
+    other k e l q (inr (inl x)) = (let y = s.below k e x in omega arith)
+    other k e l q (inr (inr x)) = (let y = s.above place d (omega arith) (omega arith) in let z = r place k d x l in let same : (slice_index_or seen k d).pre ≡ (slice_index_or seen k e).pre = ap (λ (z : Seen). z.pre) (same-at seen k d e l) in omega arith)

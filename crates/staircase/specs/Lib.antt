@@ -1,5 +1,6 @@
 pub mod Ahead
 pub mod Hits
+pub mod Made
 pub mod Parts
 pub mod Passes
 pub mod Seen

@@ -1,5 +1,5 @@
 -- The rows that were read, by places and by numbers (own rule).
-use Rattle.std.specs.Prelude.{ℕ, ◌≡◌, ◌<◌, ◌≤◌, ◌⊎◌, List, [], ◌∷◌, length, slice_index_or}
+use Rattle.std.specs.Prelude.{ℕ, ◌≡◌, ◌-◌, ◌^◌, ◌<◌, ◌≤◌, ◌⊎◌, List, [], ◌∷◌, length, slice_index_or}
 use Rattle.staircase.specs.declared.seen.Seen.{Seen}
 
 -- an element of a list
@@ -26,3 +26,14 @@ pub record Between (seen : List Seen) (first end : ℕ) (part : List Seen) : Typ
 
 abbrev pub IsPartOf : List Seen → ℕ → ℕ → List Seen → Type 0
 IsPartOf seen first end part = IsRising seen → Between seen first end part
+
+-- numbers that can be made greater by one
+pub record IsSmall (s : Seen) : Type 0 where
+  pub pre : s.pre < 2 ^ 32 - 1
+  pub last : s.last < 2 ^ 32 - 1
+  pub level : s.level < 2 ^ 32 - 1
+
+-- rows of one tree, ascending
+pub record AreRows (seen : List Seen) : Type 0 where
+  pub rising : IsRising seen
+  pub small : (s : Seen) → In s seen → IsSmall s

@@ -50,3 +50,19 @@ pub record Adds (seen : List Seen) (counting : Bool) (task : Task) (old new : Li
 abbrev pub found : Bool → Task → List Seen → List Hit
 found counting task [] = []
 found counting task (s ∷ ss) = (if lets counting s && keeps task s then hit_in task.iter s ∷ [] else []) ++ found counting task ss
+
+-- the hits of these tasks come to those that there are
+pub record AddsAll (seen : List Seen) (counting : Bool) (tasks : List Task) (old new : List Hit) : Type 0 where
+  pub kept : (h : Hit) → In h old → In h new
+  pub sound : (h : Hit) → In h new → In h old ⊎ ((task : Task) × In task tasks × Finds seen counting task h)
+  pub complete : (task : Task) → In task tasks → (h : Hit) → Finds seen counting task h → In h new
+
+-- all that a task finds is there, where there is a task
+abbrev pub AllOf : List Seen → Bool → Option Task → List Hit → Type 0
+AllOf seen counting None hits = Unit {0}
+AllOf seen counting (Some task) hits = (h : Hit) → Finds seen counting task h → In h hits
+
+-- one task more, after one that may cover it
+pub record Goes (seen : List Seen) (counting : Bool) (before after : Option Task) (task : Task) (old new : List Hit) : Type 0 where
+  pub adds : Adds seen counting task old new
+  pub all : AllOf seen counting after new

@@ -13,6 +13,7 @@ mod part;
 mod read;
 mod seen;
 mod task;
+mod tasks;
 mod test;
 
 pub use kinds::{Ctx, Tally};

@@ -35,7 +35,7 @@ fn keeps(task: Task, seen: Seen) -> bool
 }
 
 /// Whether the first task looks for all rows that the second one looks for, in the same iteration.
-fn covers(task: Task, other: Task) -> bool
+pub(crate) fn covers(task: Task, other: Task) -> bool
     ensures { result ≡ covers task other }
 {
     let limit = match task.limit {
