@@ -1,14 +1,14 @@
 -- Where the children of a row stand.
-use Rattle.std.proofs.Common.{inl, inr, ◌⊎◌, ◌≡◌, ℕ, zero, suc, ◌+◌, ◌-◌, ◌<◌, ◌≤◌, Bool, true, false, not, ◌&&◌, ◌||◌, cond, List, [], ◌∷◌, ◌++◌, length, map, refl, sym, ap, ◌∙◌, subst, arith, length-append}
-use Rattle.std.specs.Prelude.{nat_eq, nat_lt, nat_le, slice_index_or}
-use Rattle.std.proofs.lemmas.Bool.{eq-eqb, ne_eqb, eqb-true, eqb-false, le-ltb, lt-ltb, le-leb, lt-leb, leb-true, ltb-true, true≢false, false≢true, cases_lt, cases_order, and_parts, and_from}
+use Rattle.std.proofs.Common.{inl, inr, ◌≡◌, ℕ, suc, ◌+◌, ◌<◌, ◌≤◌, true, List, [], ◌∷◌, ◌++◌, length, refl, sym, ap, ◌∙◌, arith, length-append}
+use Rattle.std.specs.Prelude.{nat_eq, nat_le}
+use Rattle.std.proofs.lemmas.Bool.{eq-eqb, eqb-true, le-ltb, lt-ltb, le-leb, leb-true, ltb-true, true≢false, false≢true, cases_order, and_parts, and_from}
 use Rattle.doc_table.specs.Tree.{Tree}
 use Rattle.doc_table.specs.Enc.{enc, line_in}
-use Rattle.doc_table.specs.Paths.{is_prefix, is_less, is_same}
-use Rattle.doc_table.specs.Places.{path_at, within, below, child, RowsTell, Kids, ChildrenStand}
-use Rattle.doc_table.proofs.Marks.{bridge, is_prefix-self, is_less-self}
-use Rattle.doc_table.proofs.ByRows.{same, nested}
-use Rattle.doc_table.proofs.Ways.{row-of, rest-of, prefix-append, prefix-append_more, less-last, less-longer}
+use Rattle.doc_table.specs.Paths.{is_prefix, is_less}
+use Rattle.doc_table.specs.Places.{path_at, within, child, ChildrenStand}
+use Rattle.doc_table.proofs.Marks.{bridge, is_less-self}
+use Rattle.doc_table.proofs.ByRows.{nested}
+use Rattle.doc_table.proofs.Ways.{row-of, rest-of, prefix-append_more, less-longer}
 
 end_of : {T : Type 0} → Tree T → ℕ → ℕ
 end_of t u = u + (line_in (enc t) u).size

@@ -8,3 +8,6 @@ pub mod KeptRows
 pub mod SpineRows
 pub mod Soundness
 pub mod Steps
+pub mod Looks
+pub mod Finds
+pub mod SpineLaws

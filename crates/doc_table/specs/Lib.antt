@@ -11,5 +11,6 @@ pub mod Sound
 pub mod Codes
 pub mod Kept
 pub mod Growth
+pub mod Stores
 pub mod Notes
 pub mod Account
