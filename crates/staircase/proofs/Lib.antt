@@ -1,5 +1,6 @@
 pub mod Coming
 pub mod Elements
+pub mod Labels
 pub mod Parting
 pub mod Passing
 pub mod Picks
