@@ -1,5 +1,6 @@
 pub mod Ahead
 pub mod Hits
+pub mod Joins
 pub mod Made
 pub mod Parts
 pub mod Passes

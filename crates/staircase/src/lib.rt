@@ -5,6 +5,7 @@
 mod after;
 mod ahead;
 mod before;
+mod context;
 mod down;
 mod hits;
 mod kinds;
