@@ -6,5 +6,6 @@ pub mod Parting
 pub mod Passing
 pub mod Picks
 pub mod Reading
+pub mod Some
 pub mod Spread
 pub mod Tasking
