@@ -25,12 +25,12 @@ pub record HeldChild (t : Option (Tree TextId)) (line : Line TextId) : Type 0 wh
   pub held : Held t line
   pub child : may_be_child is_empty_id (root_of held.sub) ≡ true
 
-at-left : {X : Type 0} (xs ys : List X) (k : ℕ) (d : X) → k < length xs → slice_index_or (xs ++ ys) k d ≡ slice_index_or xs k d
+pub at-left : {X : Type 0} (xs ys : List X) (k : ℕ) (d : X) → k < length xs → slice_index_or (xs ++ ys) k d ≡ slice_index_or xs k d
 at-left [] ys k d l = absurd (omega arith)
 at-left (x ∷ xs) ys zero d l = refl
 at-left (x ∷ xs) ys (suc k) d l = at-left xs ys k d (omega arith)
 
-at-right : {X : Type 0} (xs ys : List X) (k : ℕ) (d : X) → slice_index_or (xs ++ ys) (length xs + k) d ≡ slice_index_or ys k d
+pub at-right : {X : Type 0} (xs ys : List X) (k : ℕ) (d : X) → slice_index_or (xs ++ ys) (length xs + k) d ≡ slice_index_or ys k d
 at-right {X = X} [] ys k d = let e : length {A = X} [] + k ≡ k = omega arith in ap (λ z. slice_index_or ys z d) e
 at-right (x ∷ xs) ys k d = let e : suc (length xs) + k ≡ suc (length xs + k) = omega arith in ap (λ z. slice_index_or (x ∷ (xs ++ ys)) z d) e ∙ at-right xs ys k d
 
