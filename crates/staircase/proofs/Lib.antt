@@ -10,3 +10,4 @@ pub mod Reading
 pub mod Some
 pub mod Spread
 pub mod Tasking
+pub mod Touching

@@ -78,7 +78,7 @@ no_zero : (k : ℕ) → nat_eq (suc k) 0 ≡ false
 no_zero k = ne_eqb (suc k) 0 (λ e. omega arith)
 
 -- following and preceding of an attribute
-after-attribute : (t : Tree TextId) (c k v : ℕ) → RowsTell t → c < length (enc t) → v < length (enc t) → on_following (path_with t c (suc k)) (row_path t v) ≡ nat_lt c v
+pub after-attribute : (t : Tree TextId) (c k v : ℕ) → RowsTell t → c < length (enc t) → v < length (enc t) → on_following (path_with t c (suc k)) (row_path t v) ≡ nat_lt c v
 after-attribute t c k v b h l = rw (no_zero k, le-ltb (suc k) 0 (omega arith), b.less c v h l) (plain (nat_lt c v) (is_same (path_at t c) (path_at t v)))
   where
     plain : (b d : Bool) → ((b || (d && false)) && true) ≡ b

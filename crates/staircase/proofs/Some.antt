@@ -85,7 +85,7 @@ picked-in p (suc n) v h = elim (in-parts v (picked p n) (cond (p n) (n ∷ []) [
 -- ---- rows of a context
 
 -- some wanted node of the context is on row v
-rows-sound : (rows owners : Bool) (last : Option ℕ) (cs : List Ctx) (v : ℕ) → In v (rows_from rows owners last cs) → (c : Ctx) × In c cs × (c.pre ≡ v) × (is_wanted rows owners c ≡ true)
+pub rows-sound : (rows owners : Bool) (last : Option ℕ) (cs : List Ctx) (v : ℕ) → In v (rows_from rows owners last cs) → (c : Ctx) × In c cs × (c.pre ≡ v) × (is_wanted rows owners c ≡ true)
 rows-sound rows owners last [] v h = absurd h
 rows-sound rows owners last (c ∷ cs) v h = here (is_wanted rows owners c) refl (is_after last c.pre) (in-parts v (cond (is_wanted rows owners c && is_after last c.pre) (c.pre ∷ []) []) (rows_from rows owners (cond (is_wanted rows owners c) (Some c.pre) last) cs) h) (λ i. rows-sound rows owners (cond (is_wanted rows owners c) (Some c.pre) last) cs v i)
   where
@@ -95,7 +95,7 @@ rows-sound rows owners last (c ∷ cs) v h = here (is_wanted rows owners c) refl
     here true e false (inl a) f = absurd a
     here false e d (inl a) f = absurd a
 
-rows-complete : (rows owners : Bool) (last : Option ℕ) (cs : List Ctx) (c : Ctx) → In c cs → is_wanted rows owners c ≡ true → (last ≡ Some c.pre) ⊎ In c.pre (rows_from rows owners last cs)
+pub rows-complete : (rows owners : Bool) (last : Option ℕ) (cs : List Ctx) (c : Ctx) → In c cs → is_wanted rows owners c ≡ true → (last ≡ Some c.pre) ⊎ In c.pre (rows_from rows owners last cs)
 rows-complete rows owners last [] c h e = absurd h
 rows-complete rows owners last (d ∷ cs) c h e = elim h [
     inl q ↦ here q (is_after last d.pre) refl
