@@ -3,6 +3,7 @@ pub mod Coming
 pub mod Elements
 pub mod Labels
 pub mod Looking
+pub mod Naming
 pub mod Parting
 pub mod Passing
 pub mod Picks
