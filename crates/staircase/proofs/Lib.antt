@@ -8,6 +8,7 @@ pub mod Parting
 pub mod Passing
 pub mod Picks
 pub mod Reading
+pub mod Rowing
 pub mod Some
 pub mod Spread
 pub mod Tasking

@@ -89,7 +89,7 @@ after-attribute t c k v b h l = rw (no_zero k, le-ltb (suc k) 0 (omega arith), b
 before-is : (c v s : ℕ) → ((nat_lt v c || (nat_eq v c && true)) && not (nat_le v c && nat_le c (v + s))) ≡ nat_lt (v + s) c
 before-is c v s = grind (arith, nat_tests)
 
-before-attribute : (t : Tree TextId) (c k v : ℕ) → RowsTell t → c < length (enc t) → v < length (enc t) → on_preceding (path_with t c (suc k)) (row_path t v) ≡ nat_lt (v + (line_in (enc t) v).size) c
+pub before-attribute : (t : Tree TextId) (c k v : ℕ) → RowsTell t → c < length (enc t) → v < length (enc t) → on_preceding (path_with t c (suc k)) (row_path t v) ≡ nat_lt (v + (line_in (enc t) v).size) c
 before-attribute t c k v b h l = rw (lt-ltb 0 (suc k) (omega arith), b.less v c l h, same t v c b l h, b.prefix v c l h) (before-is c v (line_in (enc t) v).size)
 
 pub looks-is : (axis : Axis) (tested : NodeTest) (t : Tree TextId) (i c k v : ℕ) → RowsTell t → is_span axis ≡ true → length (enc t) < 4294967296 → c < length (enc t) → v < length (enc t) → looks (task_for axis i k (seen_of axis tested t c)) (seen_of axis tested t v) ≡ on_axis axis (path_with t c k) (row_path t v)
