@@ -1,3 +1,4 @@
+pub mod Attributing
 pub mod Boards
 pub mod Coming
 pub mod Elements

@@ -1,4 +1,5 @@
 pub mod Ahead
+pub mod Attributes
 pub mod Hits
 pub mod Joins
 pub mod Made

@@ -4,6 +4,7 @@
 
 mod after;
 mod ahead;
+mod attributes;
 mod before;
 mod context;
 mod down;

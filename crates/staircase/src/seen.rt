@@ -6,13 +6,14 @@ use crate::test::row_passes;
 use doc_table::{Kind, Row};
 use xq_base::{Axis, NodeTest};
 
-/// A row: its number, the last row of its subtree, its depth, whether it is a node itself and no mere
-/// owner of a lone attribute, and whether it is a node that passes the test.
+/// A row: its number, the last row of its subtree, its depth, whether it is an element, whether it is a
+/// node itself and no mere owner of a lone attribute, and whether it is a node that passes the test.
 #[derive(Clone, Copy, Debug, PartialEq, Eq)]
 pub(crate) struct Seen {
     pub pre: u32,
     pub last: u32,
     pub level: u32,
+    pub element: bool,
     pub node: bool,
     pub passes: bool,
 }
@@ -27,6 +28,7 @@ pub(crate) fn seen_row(axis: Axis, test: NodeTest, at: u32, row: Row) -> Seen
         pre: at,
         last: at + row.size,
         level: row.level,
+        element: row.kind == Kind::Element,
         node,
         passes: node && row_passes(axis, test, row),
     }

@@ -1,6 +1,6 @@
 //! What the nodes of a context look for among the rows that were read.
 ghost use Rattle.std.specs.Prelude.{◌≡◌, ◌≤◌, ◌<◌, ◌+◌, ◌-◌, ◌^◌, ◌++◌, [], Some, length, drop, if◌then◌else◌, OnOk, IfOk, IfSome};
-ghost use Rattle.staircase.specs.Parts.{AreRows, IsSmall};
+ghost use Rattle.staircase.specs.Parts.{AreRows, In, IsSmall};
 ghost use Rattle.staircase.specs.Made.{row_found, task_for, made_one, made};
 ghost use Rattle.staircase.specs.Tasks.{AddsAll, AllOf, Goes};
 
@@ -13,10 +13,11 @@ use std::alloc::Global;
 use xq_base::{Axis, Want};
 
 /// Row `pre`, where it was read.
-fn own_row(seen: &[Seen], pre: u32) -> Option<Seen>
+pub(crate) fn own_row(seen: &[Seen], pre: u32) -> Option<Seen>
     requires { AreRows seen.now }
     ensures found { result ≡ row_found seen.now pre }
     ensures small { IfSome result IsSmall }
+    ensures there { IfSome result (λ own. In own seen.now × (own.pre ≡ pre)) }
 {
     let place = place_of(seen, pre);
     if place < seen.len() && seen[place].pre == pre {
