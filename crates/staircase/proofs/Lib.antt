@@ -5,6 +5,7 @@ pub mod Elements
 pub mod Labels
 pub mod Looking
 pub mod Naming
+pub mod Owning
 pub mod Parting
 pub mod Passing
 pub mod Picks
