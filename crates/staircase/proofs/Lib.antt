@@ -1,3 +1,4 @@
+pub mod Attained
 pub mod Attributing
 pub mod Boards
 pub mod Coming

@@ -46,7 +46,7 @@ own-from : (axis : Axis) (tested : NodeTest) (c : Ctx) (o : Option (TextId × Te
 own-from axis tested c None h i = absurd i
 own-from axis tested c (Some x) h i = hit-from axis tested c c.attr x h i
 
-to-hit : (axis : Axis) (tested : NodeTest) (c : Ctx) (k : ℕ) (x : TextId × TextId) → selects id_eq axis (test_of tested) AttributeNode (Some x.0) ≡ true → In (record { pre = c.pre; attr = k; iter = c.iter }) (attribute_hit axis tested c k x.0)
+pub to-hit : (axis : Axis) (tested : NodeTest) (c : Ctx) (k : ℕ) (x : TextId × TextId) → selects id_eq axis (test_of tested) AttributeNode (Some x.0) ≡ true → In (record { pre = c.pre; attr = k; iter = c.iter }) (attribute_hit axis tested c k x.0)
 to-hit axis tested c k x e = rw e (inl refl)
 
 record AllGathered (axis : Axis) (tested : NodeTest) (c : Ctx) (first : ℕ) (pairs : List (TextId × TextId)) (h : Hit) : Type 0 where
@@ -63,7 +63,7 @@ all-from axis tested c first (x ∷ pairs) h i = elim (in-parts h (attribute_hit
              record { place = suc r.place; within = omega (arith, r.within); gathered = subst (λ k. Gathered axis tested c k (nth_pair pairs (suc r.place)) h) z r.gathered })
   ]
 
-to-all : (axis : Axis) (tested : NodeTest) (c : Ctx) (first : ℕ) (pairs : List (TextId × TextId)) (place : ℕ) (x : TextId × TextId) → nth_pair pairs (suc place) ≡ Some x → selects id_eq axis (test_of tested) AttributeNode (Some x.0) ≡ true → In (record { pre = c.pre; attr = first + place; iter = c.iter }) (all_hits axis tested c first pairs)
+pub to-all : (axis : Axis) (tested : NodeTest) (c : Ctx) (first : ℕ) (pairs : List (TextId × TextId)) (place : ℕ) (x : TextId × TextId) → nth_pair pairs (suc place) ≡ Some x → selects id_eq axis (test_of tested) AttributeNode (Some x.0) ≡ true → In (record { pre = c.pre; attr = first + place; iter = c.iter }) (all_hits axis tested c first pairs)
 to-all axis tested c first [] place x e s = cc
 to-all axis tested c first (y ∷ pairs) zero x e s =
     let q : x ≡ y = cc in
@@ -100,7 +100,7 @@ lone-pair (Branch (OfText v) f) e = absurd (false≢true e)
 lone-pair (Branch (OfComment v) f) e = absurd (false≢true e)
 lone-pair (Branch (OfInstruction n v) f) e = absurd (false≢true e)
 
-lone-parts : (t : Tree TextId) (p : Place) → is_lone t ≡ true → names_node t p ≡ true → (p.pre ≡ 0) × (p.attr ≡ 1)
+pub lone-parts : (t : Tree TextId) (p : Place) → is_lone t ≡ true → names_node t p ≡ true → (p.pre ≡ 0) × (p.attr ≡ 1)
 lone-parts t p l e =
     let b = and_parts (nat_eq p.pre 0) (nat_eq p.attr 1) (sym (ap (λ z. cond z (nat_eq p.pre 0 && nat_eq p.attr 1) (nat_lt p.pre (length (enc t)) && nat_le p.attr (length (line_in (enc t) p.pre).attributes))) l) ∙ e) in
     (eqb-true p.pre 0 b.0, eqb-true p.attr 1 b.1)
@@ -120,7 +120,7 @@ attribute-label t p b s e z = go (is_lone t) refl
         ∙ label-is t p.pre (p.attr - 1) (node-at t p.pre s l (node-row t p b e))
         ∙ ap (λ k. label_of_pair (nth_pair (line_in (enc t) p.pre).attributes k)) (sym one)
 
-selects-pair : (axis : Axis) (tested : NodeTest) (o : Option (TextId × TextId)) → selects_label id_eq axis (test_of tested) (label_of_pair o) ≡ true → (x : TextId × TextId) × (o ≡ Some x) × (selects id_eq axis (test_of tested) AttributeNode (Some x.0) ≡ true)
+pub selects-pair : (axis : Axis) (tested : NodeTest) (o : Option (TextId × TextId)) → selects_label id_eq axis (test_of tested) (label_of_pair o) ≡ true → (x : TextId × TextId) × (o ≡ Some x) × (selects id_eq axis (test_of tested) AttributeNode (Some x.0) ≡ true)
 selects-pair axis tested None e = absurd (false≢true e)
 selects-pair axis tested (Some x) e = (x, refl, e)
 
@@ -227,7 +227,7 @@ parts-in axis tested t seen (c ∷ cs) h k = elim (in-parts h (attribute_part ax
   | inr y ↦ (let r = parts-in axis tested t seen cs h y in (r.0, inr r.1, r.2))
   ]
 
-in-attribute_parts : (axis : Axis) (tested : NodeTest) (t : Tree TextId) (seen : List Seen) (cs : List Ctx) (c : Ctx) (h : Hit) → In c cs → In h (attribute_part axis tested t seen c) → In h (attribute_parts axis tested t seen cs)
+pub in-attribute_parts : (axis : Axis) (tested : NodeTest) (t : Tree TextId) (seen : List Seen) (cs : List Ctx) (c : Ctx) (h : Hit) → In c cs → In h (attribute_part axis tested t seen c) → In h (attribute_parts axis tested t seen cs)
 in-attribute_parts axis tested t seen [] c h i k = absurd i
 in-attribute_parts axis tested t seen (d ∷ cs) c h i k = elim i [
     inl e ↦ in-left h (attribute_part axis tested t seen d) (attribute_parts axis tested t seen cs) (subst (λ (z : Ctx). In h (attribute_part axis tested t seen z)) e k)
