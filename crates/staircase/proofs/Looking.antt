@@ -15,6 +15,7 @@ use Rattle.doc_table.specs.Places.{path_at, row_path, RowsTell}
 use Rattle.doc_table.proofs.ByRows.{same, by-self, by-child, by-descendant, by-descendant_or_self, by-following, by-preceding}
 use Rattle.staircase.specs.declared.seen.Seen.{Seen}
 use Rattle.staircase.specs.declared.task.Task.{Task}
+use Rattle.staircase.specs.Joins.{is_span}
 use Rattle.staircase.specs.Made.{task_for}
 use Rattle.staircase.specs.Tasks.{in_task}
 use Rattle.staircase.specs.Seen.{seen_of}
@@ -22,21 +23,6 @@ use Rattle.staircase.specs.Seen.{seen_of}
 abbrev pub looks : Option Task → Seen → Bool
 looks None s = false
 looks (Some task) s = in_task task s
-
--- the axes whose rows stand between two numbers, and the one without rows
-abbrev pub is_span : Axis → Bool
-is_span a.SelfNode = true
-is_span a.Child = true
-is_span a.Descendant = true
-is_span a.DescendantOrSelf = true
-is_span a.Following = true
-is_span a.Preceding = true
-is_span a.Attribute = true
-is_span a.Parent = false
-is_span a.Ancestor = false
-is_span a.AncestorOrSelf = false
-is_span a.FollowingSibling = false
-is_span a.PrecedingSibling = false
 
 abbrev pub path_with : Tree TextId → ℕ → ℕ → Path
 path_with t c k = record { steps = path_at t c; attr = k }

@@ -106,37 +106,37 @@ follows-later lines rows rest owners owners_rest beyond from at h l none = recor
     comes = comes-later rows rest from at (length lines) h.comes l none;
     owning = owners-up rows rest owners owners_rest from at (length lines) h.owning h.own l none;
     own = h.own;
-    beyond_rows = λ w k. h.beyond_rows w (omega arith)
+    beyond_rows = λ w k m. h.beyond_rows w (omega arith) m
   }
 
 -- before the first row still to come, and before `beyond`, no row is wanted
-clear-before : (lines : List (Line TextId)) (rows rest owners owners_rest : List ℕ) (beyond from at : ℕ) → Follows lines rows rest owners owners_rest beyond from → from ≤ at → ((w : ℕ) → from ≤ w → w < at → has w rows ≡ false) → UpFrom at (length lines) rest → (v : ℕ) → from ≤ v → v < at → v < beyond → Wanted lines rows owners v ≡ false
-clear-before lines rows rest owners owners_rest beyond from at h l none up v k m b =
+clear-before : (lines : List (Line TextId)) (rows rest owners owners_rest : List ℕ) (beyond from at : ℕ) → Follows lines rows rest owners owners_rest beyond from → from ≤ at → ((w : ℕ) → from ≤ w → w < at → has w rows ≡ false) → UpFrom at (length lines) rest → (v : ℕ) → from ≤ v → v < at → v < beyond → v < length lines → Wanted lines rows owners v ≡ false
+clear-before lines rows rest owners owners_rest beyond from at h l none up v k m b n =
     let o = (owners-up rows rest owners owners_rest from at (length lines) h.owning h.own l none).up in
-    let two : (any (λ c. follows lines c v) rows || any (λ c. nat_lt c v) owners) ≡ false = h.beyond_rows v k ∙ rw (lt-leb beyond v b, none-after lines at (length lines) rest up v (omega arith), none-after_own at (length lines) owners_rest o v (omega arith)) refl in
+    let two : (any (λ c. follows lines c v) rows || any (λ c. nat_lt c v) owners) ≡ false = h.beyond_rows v k n ∙ rw (lt-leb beyond v b, none-after lines at (length lines) rest up v (omega arith), none-after_own at (length lines) owners_rest o v (omega arith)) refl in
     rw (none v k m, two) refl
 
 pub after-next : (lines : List (Line TextId)) (rows rest owners owners_rest : List ℕ) (beyond from total : ℕ) → length lines ≡ total → Follows lines rows rest owners owners_rest beyond from → (at : ℕ) → at ≡ earlier (first_of rest) (max from beyond)
     → (at < total → NextIs (Wanted lines rows owners) (λ at. Follows lines rows rest owners owners_rest beyond at) from total (Some at)) × (total ≤ at → NextIs (Wanted lines rows owners) (λ at. Follows lines rows rest owners owners_rest beyond at) from total None)
 after-next lines rows [] owners owners_rest beyond from total e h at f =
     let none : (w : ℕ) → from ≤ w → has w rows ≡ false = λ w k. h.comes.same w k in
-    let clear : (v : ℕ) → from ≤ v → v < at → Wanted lines rows owners v ≡ false = λ v k m. clear-before lines rows [] owners owners_rest beyond from at h (omega arith) (λ w a b. none w a) tt v k m (omega arith) in
-    (λ l. (omega arith, l, or_right (has at rows) (any (λ c. follows lines c at) rows || any (λ c. nat_lt c at) owners) (h.beyond_rows at (omega arith) ∙ rw (le-leb beyond at (omega arith)) refl), follows-later lines rows [] owners owners_rest beyond from at h (omega arith) (λ w a b. none w a), clear),
-     λ l v k m. clear v k (omega arith))
+    let clear : (v : ℕ) → from ≤ v → v < at → v < length lines → Wanted lines rows owners v ≡ false = λ v k m n. clear-before lines rows [] owners owners_rest beyond from at h (omega arith) (λ w a b. none w a) tt v k m (omega arith) n in
+    (λ l. (omega arith, l, or_right (has at rows) (any (λ c. follows lines c at) rows || any (λ c. nat_lt c at) owners) (h.beyond_rows at (omega arith) (omega arith) ∙ rw (le-leb beyond at (omega arith)) refl), follows-later lines rows [] owners owners_rest beyond from at h (omega arith) (λ w a b. none w a), λ v k m. clear v k m (omega arith)),
+     λ l v k m. clear v k (omega arith) (omega arith))
 after-next lines rows (x ∷ xs) owners owners_rest beyond from total e h at f =
     let k = comes-first rows (x ∷ xs) from x (length lines) h.comes refl in
     let none : (w : ℕ) → from ≤ w → w < at → has w rows ≡ false = λ w a b. k.none w a (omega arith) in
     let up : UpFrom at (length lines) (x ∷ xs) = (omega arith, h.comes.up.1, h.comes.up.2) in
-    let clear : (v : ℕ) → from ≤ v → v < at → Wanted lines rows owners v ≡ false = λ v a b. clear-before lines rows (x ∷ xs) owners owners_rest beyond from at h (omega (arith, h.comes.up.0)) none up v a b (pick v a b (cases_lt beyond from)) in
-    (λ l. (omega (arith, h.comes.up.0), l, wanted (cases_lt at x), follows-later lines rows (x ∷ xs) owners owners_rest beyond from at h (omega (arith, h.comes.up.0)) none, clear),
-     λ l v a b. clear v a (omega arith))
+    let clear : (v : ℕ) → from ≤ v → v < at → v < length lines → Wanted lines rows owners v ≡ false = λ v a b n. clear-before lines rows (x ∷ xs) owners owners_rest beyond from at h (omega (arith, h.comes.up.0)) none up v a b (pick v a b (cases_lt beyond from)) n in
+    (λ l. (omega (arith, h.comes.up.0), l, wanted (omega arith) (cases_lt at x), follows-later lines rows (x ∷ xs) owners owners_rest beyond from at h (omega (arith, h.comes.up.0)) none, λ v a b. clear v a b (omega arith)),
+     λ l v a b. clear v a (omega arith) (omega arith))
   where
     pick : (v : ℕ) → from ≤ v → v < at → (beyond < from) ⊎ (from ≤ beyond) → v < beyond
     pick v a b (inl q) = absurd (omega (arith, h.comes.up.0))
     pick v a b (inr q) = omega arith
-    wanted : (at < x) ⊎ (x ≤ at) → Wanted lines rows owners at ≡ true
-    wanted (inl q) = or_right (has at rows) (any (λ c. follows lines c at) rows || any (λ c. nat_lt c at) owners) (h.beyond_rows at (omega (arith, h.comes.up.0)) ∙ rw (le-leb beyond at (omega arith)) refl)
-    wanted (inr q) =
+    wanted : at < length lines → (at < x) ⊎ (x ≤ at) → Wanted lines rows owners at ≡ true
+    wanted n (inl q) = or_right (has at rows) (any (λ c. follows lines c at) rows || any (λ c. nat_lt c at) owners) (h.beyond_rows at (omega (arith, h.comes.up.0)) n ∙ rw (le-leb beyond at (omega arith)) refl)
+    wanted n (inr q) =
         let same : x ≡ at = omega arith in
         or_left (has at rows) (any (λ c. follows lines c at) rows || any (λ c. nat_lt c at) owners) (subst (λ z. has z rows ≡ true) same (comes-first rows (x ∷ xs) from x (length lines) h.comes refl).there)
 
@@ -172,7 +172,7 @@ after-enter lines rows rest owners owners_rest beyond at last h e = record {
     comes = comes-past rows rest at (length lines) h.comes;
     owning = comes-past owners owners_rest at (length lines) h.owning;
     own = h.own;
-    beyond_rows = λ w l. h.beyond_rows w (omega arith)
+    beyond_rows = λ w l n. h.beyond_rows w (omega arith) n
       ∙ ap (λ z. nat_le beyond w || (z || any (λ c. nat_lt c w) owners_rest)) (any-without (λ c. follows lines c w) at rest)
       ∙ ap (λ z. nat_le beyond w || (((is_first at rest && follows lines at w) || any (λ c. follows lines c w) (without at rest)) || z)) (any-without (λ c. nat_lt c w) at owners_rest)
       ∙ ap (λ z. nat_le beyond w || (((is_first at rest && nat_lt z w) || any (λ c. follows lines c w) (without at rest)) || ((is_first at owners_rest && nat_lt at w) || any (λ c. nat_lt c w) (without at owners_rest)))) (sym e)

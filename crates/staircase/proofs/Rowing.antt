@@ -17,14 +17,14 @@ use Rattle.staircase.specs.declared.hits.Hit.{Hit}
 use Rattle.staircase.specs.declared.kinds.Ctx.{Ctx}
 use Rattle.staircase.specs.declared.seen.Seen.{Seen}
 use Rattle.staircase.specs.declared.task.Task.{Task}
-use Rattle.staircase.specs.Joins.{place_of, places}
+use Rattle.staircase.specs.Joins.{is_span, place_of, places}
 use Rattle.staircase.specs.Made.{task_for, task_at, listed, made_one, made, row_found, iter_for, where_row}
 use Rattle.staircase.specs.Parts.{In}
 use Rattle.staircase.specs.Seen.{seen_of}
 use Rattle.staircase.specs.Tasks.{Finds, in_task, lets, hit_in}
 use Rattle.staircase.proofs.Boards.{board, board-in, in-board, board-found, found-board}
 use Rattle.staircase.proofs.Elements.{in-left, in-right, in-parts}
-use Rattle.staircase.proofs.Looking.{looks, looks-is, is_span, path_with, before-attribute}
+use Rattle.staircase.proofs.Looking.{looks, looks-is, path_with, before-attribute}
 use Rattle.staircase.proofs.Some.{place-in_some, below-some}
 
 -- ---- the tasks of a context

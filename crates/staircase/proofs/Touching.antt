@@ -14,7 +14,7 @@ use Rattle.doc_table.proofs.ByRows.{by-descendant, by-following, by-child}
 use Rattle.staircase.specs.declared.kinds.Ctx.{Ctx}
 use Rattle.staircase.specs.Ahead.{has, any, UpFrom}
 use Rattle.staircase.specs.Hits.{Ascending}
-use Rattle.staircase.specs.Joins.{place_of, places, is_wanted, rows_from, AreNodes}
+use Rattle.staircase.specs.Joins.{place_of, places, is_wanted, rows_from, own, owning, AreNodes}
 use Rattle.staircase.specs.Parts.{In}
 use Rattle.staircase.specs.Passes.{follows}
 use Rattle.staircase.proofs.Coming.{has-below}
@@ -43,9 +43,6 @@ some-place_like p q (c ∷ cs) f = rw (f c, some-place_like p q cs f) refl
 cond-or : (b x : Bool) → cond b true x ≡ (b || x)
 cond-or true x = refl
 cond-or false x = refl
-
-abbrev pub own : Axis → List Ctx → List ℕ
-own axis cs = rows_from true (adds_owner axis) None cs
 
 pub own-is : (axis : Axis) (cs : List Ctx) (v : ℕ) → has v (own axis cs) ≡ is_context axis (places cs) v
 own-is axis cs v = rows-has true (adds_owner axis) cs v ∙ some-place_like (λ p. nat_eq p.pre v && cond (nat_eq p.attr 0) true (adds_owner axis)) (λ p. nat_eq p.pre v && (nat_eq p.attr 0 || adds_owner axis)) (places cs) (λ c. ap (λ z. nat_eq c.pre v && z) (cond-or (nat_eq c.attr 0) (adds_owner axis)))
@@ -98,9 +95,6 @@ end-within a n [] u = omega arith
 end-within a n (x ∷ xs) u = omega (arith, u.1, end-within (suc x) n xs u.2)
 
 -- following
-abbrev pub owning : List Ctx → List ℕ
-owning cs = rows_from false true None cs
-
 pub owning-up : (t : Tree TextId) (cs : List Ctx) → RowsTell t → Ascending cs → AreNodes t cs → UpFrom 0 (length (enc t)) (owning cs)
 owning-up t cs b up nodes = rows-ascend false true (length (enc t)) cs up (λ c i. node-row t (place_of c) b (nodes c i))
 

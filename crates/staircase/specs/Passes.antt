@@ -27,7 +27,7 @@ pub record Follows (lines : List (Line TextId)) (rows rest owners owners_rest : 
   pub comes : Comes rows rest from (length lines)
   pub owning : Comes owners owners_rest from (length lines)
   pub own : (w : ℕ) → has w owners ≡ true → has w rows ≡ true
-  pub beyond_rows : (w : ℕ) → from ≤ w → (any (λ c. follows lines c w) rows || any (λ c. nat_lt c w) owners) ≡ (nat_le beyond w || (any (λ c. follows lines c w) rest || any (λ c. nat_lt c w) owners_rest))
+  pub beyond_rows : (w : ℕ) → from ≤ w → w < length lines → (any (λ c. follows lines c w) rows || any (λ c. nat_lt c w) owners) ≡ (nat_le beyond w || (any (λ c. follows lines c w) rest || any (λ c. nat_lt c w) owners_rest))
 
 -- the lesser of both, where there is a first one
 abbrev pub earlier : Option ℕ → ℕ → ℕ
