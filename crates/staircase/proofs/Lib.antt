@@ -2,6 +2,7 @@ pub mod Attained
 pub mod Attributing
 pub mod Boards
 pub mod Coming
+pub mod Counting
 pub mod Elements
 pub mod Labels
 pub mod Looking
@@ -14,5 +15,6 @@ pub mod Reading
 pub mod Rowing
 pub mod Some
 pub mod Spread
+pub mod Tallying
 pub mod Tasking
 pub mod Touching

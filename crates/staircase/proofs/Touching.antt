@@ -14,7 +14,7 @@ use Rattle.doc_table.proofs.ByRows.{by-descendant, by-following, by-child}
 use Rattle.staircase.specs.declared.kinds.Ctx.{Ctx}
 use Rattle.staircase.specs.Ahead.{has, any, UpFrom}
 use Rattle.staircase.specs.Hits.{Ascending}
-use Rattle.staircase.specs.Joins.{place_of, places, is_wanted, rows_from, own, owning, AreNodes}
+use Rattle.staircase.specs.Joins.{place_of, places, is_wanted, rows_from, own, owning, end_of, is_own, is_down, AreNodes}
 use Rattle.staircase.specs.Parts.{In}
 use Rattle.staircase.specs.Passes.{follows}
 use Rattle.staircase.proofs.Coming.{has-below}
@@ -74,10 +74,6 @@ pub child-touches : (axis : Axis) (t : Tree TextId) (cs : List Ctx) (v : ℕ) �
 child-touches axis t cs v b u l = rw (own-is axis cs v, any-context axis t cs (λ c. child (enc t) c v) (λ p. on_child (row_path t p) (row_path t v)) u (λ c k. sym (by-child t c v b k l))) refl
 
 -- preceding
-abbrev pub end_of : List ℕ → ℕ
-end_of [] = 0
-end_of (x ∷ xs) = max (min (x + 1) 4294967295) (end_of xs)
-
 end-any : (a n v : ℕ) (xs : List ℕ) → n < 4294967296 → UpFrom a n xs → nat_lt v (end_of xs) ≡ any (λ p. nat_le v p) xs
 end-any a n v [] l u = le-ltb v 0 (omega arith)
 end-any a n v (x ∷ xs) l u = go (cases_lt x v) (cases_lt v (end_of xs)) (end-any (suc x) n v xs l u.2)

@@ -1,5 +1,5 @@
 -- What a join appends and counts (XPath 2.0, section 3.2, for all iterations of all loops at once).
-use Rattle.std.specs.Prelude.{ℕ, ◌≡◌, ◌^◌, ◌<◌, length, Bool, true, false, not, ◌&&◌, ◌||◌, if◌then◌else◌, List, [], ◌∷◌, ◌++◌, map, Option, Some, None, nat_eq}
+use Rattle.std.specs.Prelude.{ℕ, ◌≡◌, ◌+◌, ◌^◌, ◌<◌, max, min, length, Bool, true, false, not, ◌&&◌, ◌||◌, if◌then◌else◌, List, [], ◌∷◌, ◌++◌, map, Option, Some, None, nat_eq}
 use Rattle.xq_base.specs.declared.item.TextId.{TextId}
 use Rattle.xq_base.specs.declared.axis.Axis.{Axis}
 use Rattle.xq_base.specs.declared.axis.NodeTest.{NodeTest}
@@ -104,3 +104,20 @@ pub record IsCount (hits : List Hit) (n : ℕ) : Type 0 where
 
 abbrev pub row_hit : ℕ → Hit
 row_hit v = record { pre = v; attr = 0; iter = 0 }
+
+-- the number after that of the last row
+abbrev pub end_of : List ℕ → ℕ
+end_of [] = 0
+end_of (x ∷ xs) = max (min (x + 1) 4294967295) (end_of xs)
+
+-- the axes that touch the rows of the context alone
+abbrev pub is_own : Axis → Bool
+is_own a.SelfNode = true
+is_own a.Attribute = true
+is_own _ = false
+
+-- the axes that touch the rows below those of the context
+abbrev pub is_down : Axis → Bool
+is_down a.Descendant = true
+is_down a.DescendantOrSelf = true
+is_down _ = false

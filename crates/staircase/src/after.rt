@@ -11,6 +11,7 @@ use xq_base::Want;
 
 /// The rows of a context, and the rows after the subtree of one of them or after an owner of an
 /// attribute in the context. All rows from `beyond` on follow a node of the context that was read.
+#[derive(Drop)]
 pub(crate) struct After<'a> {
     pub ahead: Ahead<'a>,
     pub owners: Ahead<'a>,

@@ -8,6 +8,7 @@ use crate::seen::Seen;
 use xq_base::Want;
 
 /// The rows before row `end`.
+#[derive(Drop)]
 pub(crate) struct Before {
     pub end: u32,
 }

@@ -12,6 +12,7 @@ use xq_base::Want;
 
 /// The rows of a context and all below them. Rows before `reach` that are still to come are below a row
 /// of the context that was read.
+#[derive(Drop)]
 pub(crate) struct Down<'a> {
     pub ahead: Ahead<'a>,
     pub reach: u32,

@@ -10,6 +10,7 @@ use crate::seen::Seen;
 use xq_base::Want;
 
 /// The rows of a context.
+#[derive(Drop)]
 pub(crate) struct Own<'a> {
     pub ahead: Ahead<'a>,
 }
