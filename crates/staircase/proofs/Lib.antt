@@ -1,9 +1,11 @@
 pub mod Attained
 pub mod Attributing
+pub mod Beginning
 pub mod Boards
 pub mod Coming
 pub mod Counting
 pub mod Elements
+pub mod Joining
 pub mod Labels
 pub mod Looking
 pub mod Naming

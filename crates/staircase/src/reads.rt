@@ -1,5 +1,6 @@
 //! Reading the rows of a step, by its axis.
-ghost use Rattle.std.specs.Prelude.{◌≡◌, true, map, IfOk};
+ghost use Rattle.std.specs.Prelude.{◌≡◌, ◌<◌, ◌^◌, true, length, map, IfOk};
+ghost use Rattle.doc_table.specs.Enc.{enc};
 ghost use Rattle.doc_table.specs.Notes.{Reading};
 ghost use Rattle.doc_table.specs.Touched.{touched_rows};
 ghost use Rattle.staircase.specs.Hits.{Ascending};
@@ -34,6 +35,7 @@ fn end_of(rows: &[u32]) -> u32
 fn read_own<R: Rows, L: Ledger>(alloc: Global, rows: &R, frag: FragKey, site: u32, axis: Axis, test: NodeTest, found: &[u32], context: &[Ctx], reads: &mut Reads<L>) -> Result<Vec<Seen>, Want>
     requires axis { is_own axis ≡ true }
     requires found { found.now ≡ own axis context.now }
+    requires few { length (enc (R.tree rows.now)) < 2 ^ 32 }
     requires ascending { Ascending context.now }
     requires nodes { AreNodes (R.tree rows.now) context.now }
     ensures notes { Reading reads.old.notes reads.new.notes site frag (touched_rows axis (R.tree rows.now) (places context.now)) result }
@@ -50,6 +52,7 @@ fn read_own<R: Rows, L: Ledger>(alloc: Global, rows: &R, frag: FragKey, site: u3
 fn read_down<R: Rows, L: Ledger>(alloc: Global, rows: &R, frag: FragKey, site: u32, axis: Axis, test: NodeTest, found: &[u32], context: &[Ctx], reads: &mut Reads<L>) -> Result<Vec<Seen>, Want>
     requires axis { is_down axis ≡ true }
     requires found { found.now ≡ own axis context.now }
+    requires few { length (enc (R.tree rows.now)) < 2 ^ 32 }
     requires ascending { Ascending context.now }
     requires nodes { AreNodes (R.tree rows.now) context.now }
     ensures notes { Reading reads.old.notes reads.new.notes site frag (touched_rows axis (R.tree rows.now) (places context.now)) result }
@@ -67,6 +70,7 @@ fn read_down<R: Rows, L: Ledger>(alloc: Global, rows: &R, frag: FragKey, site: u
 fn read_before<R: Rows, L: Ledger>(alloc: Global, rows: &R, frag: FragKey, site: u32, axis: Axis, test: NodeTest, found: &[u32], context: &[Ctx], reads: &mut Reads<L>) -> Result<Vec<Seen>, Want>
     requires axis { axis ≡ Axis.Preceding }
     requires found { found.now ≡ own axis context.now }
+    requires few { length (enc (R.tree rows.now)) < 2 ^ 32 }
     requires ascending { Ascending context.now }
     requires nodes { AreNodes (R.tree rows.now) context.now }
     ensures notes { Reading reads.old.notes reads.new.notes site frag (touched_rows axis (R.tree rows.now) (places context.now)) result }
@@ -81,6 +85,7 @@ fn read_before<R: Rows, L: Ledger>(alloc: Global, rows: &R, frag: FragKey, site:
 fn read_after<R: Rows, L: Ledger>(alloc: Global, rows: &R, frag: FragKey, site: u32, axis: Axis, test: NodeTest, found: &[u32], context: &[Ctx], reads: &mut Reads<L>) -> Result<Vec<Seen>, Want>
     requires axis { axis ≡ Axis.Following }
     requires found { found.now ≡ own axis context.now }
+    requires few { length (enc (R.tree rows.now)) < 2 ^ 32 }
     requires ascending { Ascending context.now }
     requires nodes { AreNodes (R.tree rows.now) context.now }
     ensures notes { Reading reads.old.notes reads.new.notes site frag (touched_rows axis (R.tree rows.now) (places context.now)) result }
