@@ -38,3 +38,7 @@ pub record AppendsHits (hits : List Hit) (old new : List Ctx) : Type 0 where
   pub ascending : Ascending more
   pub sound : (c : Ctx) → Contains more c → (h : Hit) × Contains hits h × (ctx_of h ≡ c)
   pub complete : (h : Hit) → Contains hits h → Contains more (ctx_of h)
+
+-- the second list begins with the first
+abbrev pub Extends : List Ctx → List Ctx → Type 0
+Extends old new = (more : List Ctx) × (new ≡ old ++ more)

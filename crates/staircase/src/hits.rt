@@ -1,6 +1,6 @@
 //! Hits that are gathered in any order, and how they come out: ascending, each once.
-ghost use Rattle.std.specs.Prelude.{◌≡◌, ◌≤◌, [], ◌∷◌, ◌++◌, if◌then◌else◌, OnOk};
-ghost use Rattle.staircase.specs.Hits.{ctx_of, is_last, AppendsHits};
+ghost use Rattle.std.specs.Prelude.{◌≡◌, ◌≤◌, [], ◌∷◌, ◌++◌, if◌then◌else◌, OnOk, OnErr};
+ghost use Rattle.staircase.specs.Hits.{ctx_of, is_last, AppendsHits, Extends};
 
 use crate::kinds::Ctx;
 use xq_base::Want;
@@ -15,7 +15,8 @@ pub(crate) struct Hit {
 
 /// Appends a hit, unless it is the last one.
 fn push_new(last: Option<Hit>, hit: Hit, out: &mut Vec<Ctx>) -> Result<(), Want>
-    ensures { OnOk result (out.new.items ≡ out.old.items ++ (if is_last last hit then [] else ctx_of hit ∷ [])) }
+    ensures pushed { OnOk result (out.new.items ≡ out.old.items ++ (if is_last last hit then [] else ctx_of hit ∷ [])) }
+    ensures kept { OnErr result (out.new.items ≡ out.old.items) }
 {
     if last == Some(hit) {
         return Ok(());
@@ -33,7 +34,8 @@ fn push_new(last: Option<Hit>, hit: Hit, out: &mut Vec<Ctx>) -> Result<(), Want>
 
 /// Appends the hits, ascending, each once. For want of memory some first ones are appended.
 pub(crate) fn append_hits(hits: &mut Vec<Hit>, out: &mut Vec<Ctx>) -> Result<(), Want>
-    ensures { OnOk result (AppendsHits hits.old.items out.old.items out.new.items) }
+    ensures hits { OnOk result (AppendsHits hits.old.items out.old.items out.new.items) }
+    ensures kept { Extends out.old.items out.new.items }
 {
     hits.sort_unstable();
     let mut last = None;

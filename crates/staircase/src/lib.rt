@@ -16,8 +16,10 @@ mod part;
 mod read;
 mod reads;
 mod seen;
+mod step;
 mod task;
 mod tasks;
 mod test;
 
 pub use kinds::{Ctx, Tally};
+pub use step::span_step;

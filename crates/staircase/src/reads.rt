@@ -32,7 +32,7 @@ fn end_of(rows: &[u32]) -> u32
 }
 
 /// Reads the rows of a step on self or attribute.
-fn read_own<R: Rows, L: Ledger>(alloc: Global, rows: &R, frag: FragKey, site: u32, axis: Axis, test: NodeTest, found: &[u32], context: &[Ctx], reads: &mut Reads<L>) -> Result<Vec<Seen>, Want>
+pub(crate) fn read_own<R: Rows, L: Ledger>(alloc: Global, rows: &R, frag: FragKey, site: u32, axis: Axis, test: NodeTest, found: &[u32], context: &[Ctx], reads: &mut Reads<L>) -> Result<Vec<Seen>, Want>
     requires axis { is_own axis ≡ true }
     requires found { found.now ≡ own axis context.now }
     requires few { length (enc (R.tree rows.now)) < 2 ^ 32 }
@@ -49,7 +49,7 @@ fn read_own<R: Rows, L: Ledger>(alloc: Global, rows: &R, frag: FragKey, site: u3
 }
 
 /// Reads the rows of a step on descendant or descendant-or-self.
-fn read_down<R: Rows, L: Ledger>(alloc: Global, rows: &R, frag: FragKey, site: u32, axis: Axis, test: NodeTest, found: &[u32], context: &[Ctx], reads: &mut Reads<L>) -> Result<Vec<Seen>, Want>
+pub(crate) fn read_down<R: Rows, L: Ledger>(alloc: Global, rows: &R, frag: FragKey, site: u32, axis: Axis, test: NodeTest, found: &[u32], context: &[Ctx], reads: &mut Reads<L>) -> Result<Vec<Seen>, Want>
     requires axis { is_down axis ≡ true }
     requires found { found.now ≡ own axis context.now }
     requires few { length (enc (R.tree rows.now)) < 2 ^ 32 }
@@ -67,7 +67,7 @@ fn read_down<R: Rows, L: Ledger>(alloc: Global, rows: &R, frag: FragKey, site: u
 }
 
 /// Reads the rows of a step on preceding.
-fn read_before<R: Rows, L: Ledger>(alloc: Global, rows: &R, frag: FragKey, site: u32, axis: Axis, test: NodeTest, found: &[u32], context: &[Ctx], reads: &mut Reads<L>) -> Result<Vec<Seen>, Want>
+pub(crate) fn read_before<R: Rows, L: Ledger>(alloc: Global, rows: &R, frag: FragKey, site: u32, axis: Axis, test: NodeTest, found: &[u32], context: &[Ctx], reads: &mut Reads<L>) -> Result<Vec<Seen>, Want>
     requires axis { axis ≡ Axis.Preceding }
     requires found { found.now ≡ own axis context.now }
     requires few { length (enc (R.tree rows.now)) < 2 ^ 32 }
@@ -82,7 +82,7 @@ fn read_before<R: Rows, L: Ledger>(alloc: Global, rows: &R, frag: FragKey, site:
 }
 
 /// Reads the rows of a step on following.
-fn read_after<R: Rows, L: Ledger>(alloc: Global, rows: &R, frag: FragKey, site: u32, axis: Axis, test: NodeTest, found: &[u32], context: &[Ctx], reads: &mut Reads<L>) -> Result<Vec<Seen>, Want>
+pub(crate) fn read_after<R: Rows, L: Ledger>(alloc: Global, rows: &R, frag: FragKey, site: u32, axis: Axis, test: NodeTest, found: &[u32], context: &[Ctx], reads: &mut Reads<L>) -> Result<Vec<Seen>, Want>
     requires axis { axis ≡ Axis.Following }
     requires found { found.now ≡ own axis context.now }
     requires few { length (enc (R.tree rows.now)) < 2 ^ 32 }
