@@ -1,5 +1,5 @@
 -- How passes begin, and that they read what the step touches.
-use Rattle.std.proofs.Common.{inl, inr, ◌⊎◌, ◌≡◌, ℕ, zero, suc, ◌+◌, ◌-◌, ◌^◌, ◌<◌, ◌≤◌, Bool, true, false, not, ◌&&◌, ◌||◌, cond, List, [], ◌∷◌, length, map, refl, sym, ap, ◌∙◌, subst, arith, Option, Some, None}
+use Rattle.std.proofs.Common.{inl, inr, ◌⊎◌, ◌≡◌, ℕ, zero, suc, ◌+◌, ◌-◌, ◌^◌, ◌<◌, ◌≤◌, Bool, true, false, not, ◌&&◌, ◌||◌, cond, List, [], ◌∷◌, length, map, refl, sym, ap, ◌∙◌, subst, arith, Option, Some, None, Result, Ok, Err, OnOk}
 use Rattle.std.specs.Prelude.{nat_eq, nat_lt, nat_le}
 use Rattle.std.proofs.lemmas.Bool.{le-ltb, lt-leb, false≢true}
 use Rattle.xq_base.specs.declared.item.TextId.{TextId}
@@ -7,7 +7,13 @@ use Rattle.xq_base.specs.declared.axis.Axis.{Axis}
 use Rattle.xq_base.specs.declared.axis.Axis.TheVariants as a
 use Rattle.doc_table.specs.Tree.{Tree}
 use Rattle.doc_table.specs.Enc.{enc}
-use Rattle.doc_table.specs.Places.{below, RowsTell}
+use Rattle.doc_table.specs.Places.{below, child, RowsTell}
+use Rattle.doc_table.proofs.ByRows.{nested}
+use Rattle.doc_table.proofs.Kids.{children_stand}
+use Rattle.doc_table.proofs.Marks.{bridge}
+use Rattle.staircase.specs.declared.frames.Frame.{Frame}
+use Rattle.staircase.specs.Frames.{KidsAhead}
+use Rattle.staircase.proofs.Children.{Nests}
 use Rattle.doc_table.specs.Touched.{picked, touched, touched_rows}
 use Rattle.staircase.specs.declared.kinds.Ctx.{Ctx}
 use Rattle.staircase.specs.Ahead.{has, any, UpFrom, Comes}
@@ -17,7 +23,7 @@ use Rattle.staircase.specs.Parts.{In}
 use Rattle.staircase.specs.Passes.{Follows, Reached, follows}
 use Rattle.staircase.proofs.Picks.{picked-like}
 use Rattle.staircase.proofs.Some.{has-in, in-has, rows-sound, rows-complete}
-use Rattle.staircase.proofs.Touching.{own-is, own-up, owning-up, down-touches, before-touches, after-touches, end-within}
+use Rattle.staircase.proofs.Touching.{own-is, own-up, owning-up, child-touches, down-touches, before-touches, after-touches, end-within}
 
 pub comes-all : (n : ℕ) (rows : List ℕ) → UpFrom 0 n rows → Comes rows rows 0 n
 comes-all n rows u = record { up = u; same = λ w l. refl }
@@ -100,4 +106,23 @@ after-rows axis t cs rows owners b nodes s e f =
     let own_is : rows ≡ own a.Following cs = e ∙ ap (λ z. own z cs) s in
     picked-like (λ v. has v rows || (any (λ c. follows (enc t) c v) rows || any (λ c. nat_lt c v) owners)) (touched a.Following t (places cs)) (length (enc t))
       (λ v l. ap (λ z. has v z || (any (λ c. follows (enc t) c v) z || any (λ c. nat_lt c v) owners)) own_is ∙ ap (λ z. has v (own a.Following cs) || (any (λ c. follows (enc t) c v) (own a.Following cs) || any (λ c. nat_lt c v) z)) f ∙ after-touches t cs v b nodes l)
+    ∙ ap (λ z. touched_rows z t (places cs)) (sym s)
+
+-- ---- child
+
+pub on-ok : {T E P Q : Type 0} (r : Result T E) → OnOk r P → (P → Q) → OnOk r Q
+on-ok (Ok x) p f = f p
+on-ok (Err e) p f = p
+
+pub tree-nests : (t : Tree TextId) → Nests (enc t)
+tree-nests t = record { kids = children_stand t; ends = (bridge t).ends; nested = λ u w a b l. nested t u w (bridge t) a b l }
+
+pub kids-start : (axis : Axis) (t : Tree TextId) (cs : List Ctx) (rows : List ℕ) (fs : List Frame) → RowsTell t → Ascending cs → AreNodes t cs → rows ≡ own axis cs → fs ≡ [] → KidsAhead (enc t) rows rows fs 0
+kids-start axis t cs rows fs b up nodes e f = subst (λ z. KidsAhead (enc t) rows rows z 0) (sym f) (record { comes = own-start axis t cs rows b up nodes e; frames_ok = tt; kids = λ w l. refl })
+
+pub kids-rows : (axis : Axis) (t : Tree TextId) (cs : List Ctx) (rows : List ℕ) → RowsTell t → Ascending cs → AreNodes t cs → axis ≡ a.Child → rows ≡ own axis cs → picked (λ v. has v rows || any (λ c. child (enc t) c v) rows) (length (enc t)) ≡ touched_rows axis t (places cs)
+kids-rows axis t cs rows b up nodes s e =
+    let own_is : rows ≡ own a.Child cs = e ∙ ap (λ z. own z cs) s in
+    picked-like (λ v. has v rows || any (λ c. child (enc t) c v) rows) (touched a.Child t (places cs)) (length (enc t))
+      (λ v l. ap (λ z. has v z || any (λ c. child (enc t) c v) z) own_is ∙ child-touches a.Child t cs v b (own-up a.Child t cs b up nodes) l)
     ∙ ap (λ z. touched_rows z t (places cs)) (sym s)

@@ -121,13 +121,3 @@ abbrev pub is_down : Axis → Bool
 is_down a.Descendant = true
 is_down a.DescendantOrSelf = true
 is_down _ = false
-
--- the axes whose steps are read
-abbrev pub is_read : Axis → Bool
-is_read a.SelfNode = true
-is_read a.Attribute = true
-is_read a.Descendant = true
-is_read a.DescendantOrSelf = true
-is_read a.Following = true
-is_read a.Preceding = true
-is_read _ = false

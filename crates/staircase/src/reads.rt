@@ -12,6 +12,8 @@ use crate::ahead::Ahead;
 use crate::before::Before;
 use crate::context::context_rows;
 use crate::down::Down;
+use crate::frames::Frames;
+use crate::kids::Kids;
 use crate::kinds::Ctx;
 use crate::own::Own;
 use crate::read::read_rows;
@@ -100,6 +102,24 @@ pub(crate) fn read_after<R: Rows, L: Ledger>(alloc: Global, rows: &R, frag: Frag
             next: 0,
         },
         beyond: u32::MAX,
+    };
+    read_rows(alloc, rows, frag, site, axis, test, &mut pass, reads)
+}
+
+/// Reads the rows of a step on child.
+pub(crate) fn read_kids<R: Rows, L: Ledger>(alloc: Global, rows: &R, frag: FragKey, site: u32, axis: Axis, test: NodeTest, found: &[u32], context: &[Ctx], reads: &mut Reads<L>) -> Result<Vec<Seen>, Want>
+    requires axis { axis ≡ Axis.Child }
+    requires found { found.now ≡ own axis context.now }
+    requires few { length (enc (R.tree rows.now)) < 2 ^ 32 }
+    requires ascending { Ascending context.now }
+    requires nodes { AreNodes (R.tree rows.now) context.now }
+    ensures notes { Reading reads.old.notes reads.new.notes site frag (touched_rows axis (R.tree rows.now) (places context.now)) result }
+    ensures refuses { reads.new.may_refuse ≡ reads.old.may_refuse }
+    ensures seen { IfOk result (λ seen. seen.items ≡ map (seen_of axis test (R.tree rows.now)) (touched_rows axis (R.tree rows.now) (places context.now))) }
+{
+    let mut pass = Kids {
+        ahead: Ahead { rows: found, next: 0 },
+        frames: Frames::new(alloc),
     };
     read_rows(alloc, rows, frag, site, axis, test, &mut pass, reads)
 }

@@ -7,7 +7,7 @@ ghost use Rattle.doc_table.specs.Sound.{is_sound};
 ghost use Rattle.doc_table.specs.Spine.{is_empty_id};
 ghost use Rattle.doc_table.specs.Touched.{counts, touched_rows};
 ghost use Rattle.staircase.specs.Hits.{Ascending, Extends};
-ghost use Rattle.staircase.specs.Joins.{is_read, own, places, tally_of, AreNodes, Joins, Ready};
+ghost use Rattle.staircase.specs.Joins.{is_span, own, places, tally_of, AreNodes, Joins, Ready};
 ghost use Rattle.staircase.specs.Parts.{AreRows};
 ghost use Rattle.staircase.specs.Seen.{seen_of, AllSeen};
 
@@ -16,7 +16,7 @@ use crate::context::{adds_owner, context_rows};
 use crate::count::tally;
 use crate::hits::append_hits;
 use crate::kinds::{Ctx, Tally};
-use crate::reads::{read_after, read_before, read_down, read_own};
+use crate::reads::{read_after, read_before, read_down, read_kids, read_own};
 use crate::seen::Seen;
 use crate::tasks::gather;
 use doc_table::{Ledger, Reads, Rows};
@@ -36,6 +36,7 @@ fn read_axis<R: Rows, L: Ledger>(alloc: Global, rows: &R, frag: FragKey, site: u
     match axis {
         Axis::SelfNode | Axis::Attribute => read_own(alloc, rows, frag, site, axis, test, found, context, reads),
         Axis::Descendant | Axis::DescendantOrSelf => read_down(alloc, rows, frag, site, axis, test, found, context, reads),
+        Axis::Child => read_kids(alloc, rows, frag, site, axis, test, found, context, reads),
         Axis::Preceding => read_before(alloc, rows, frag, site, axis, test, found, context, reads),
         Axis::Following => read_after(alloc, rows, frag, site, axis, test, found, context, reads),
         _ => Err(Want),
@@ -64,7 +65,7 @@ fn finish<R: Rows>(alloc: Global, axis: Axis, test: NodeTest, rows: &R, found: &
 /// once, and counts. It reads exactly the rows that the step touches, ascending, each once. For want
 /// of memory the hits are as before and some first ones of these rows were read.
 pub fn span_step<R: Rows, L: Ledger>(alloc: Global, rows: &R, frag: FragKey, site: u32, axis: Axis, test: NodeTest, context: &[Ctx], out: &mut Vec<Ctx>, reads: &mut Reads<L>) -> Result<Tally, Want>
-    requires axis { is_read axis ≡ true }
+    requires axis { is_span axis ≡ true }
     requires ascending { Ascending context.now }
     requires nodes { AreNodes (R.tree rows.now) context.now }
     ensures hits { OnOk result (Joins axis test (R.tree rows.now) context.now out.old.items out.new.items) }
