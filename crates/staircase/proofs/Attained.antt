@@ -48,13 +48,13 @@ same-place t c h b l m e =
 holds-plain : (axis : Axis) (t : Tree TextId) (c h : Ctx) → RowsTell t → c.pre < length (enc t) → h.pre < length (enc t) → nat_eq h.attr 0 ≡ false → on_axis axis (record { steps = path_at t c.pre; attr = c.attr }) (record { steps = path_at t h.pre; attr = h.attr }) ≡ true → Holds axis c h
 holds-plain a.SelfNode t c h b l m z e = (let p = same-place t c h b l m e in (p.0, inl (refl, p.1)))
 holds-plain a.DescendantOrSelf t c h b l m z e = elim (or_cases (on_descendant (record { steps = path_at t c.pre; attr = c.attr }) (record { steps = path_at t h.pre; attr = h.attr })) (on_self (record { steps = path_at t c.pre; attr = c.attr }) (record { steps = path_at t h.pre; attr = h.attr })) e) [
-    inl d ↦ absurd (no-and3 (nat_eq c.attr 0) (is_prefix (path_at t c.pre) (path_at t h.pre)) (not (is_same (path_at t c.pre) (path_at t h.pre))) (subst (λ x. (((nat_eq c.attr 0 && x) && is_prefix (path_at t c.pre) (path_at t h.pre)) && not (is_same (path_at t c.pre) (path_at t h.pre))) ≡ true) z d))
+  | inl d ↦ absurd (no-and3 (nat_eq c.attr 0) (is_prefix (path_at t c.pre) (path_at t h.pre)) (not (is_same (path_at t c.pre) (path_at t h.pre))) (subst (λ x. (((nat_eq c.attr 0 && x) && is_prefix (path_at t c.pre) (path_at t h.pre)) && not (is_same (path_at t c.pre) (path_at t h.pre))) ≡ true) z d))
   | inr d ↦ (let p = same-place t c h b l m d in (p.0, inl (refl, p.1)))
-  ]
+]
 holds-plain a.AncestorOrSelf t c h b l m z e = elim (or_cases (on_ancestor (record { steps = path_at t c.pre; attr = c.attr }) (record { steps = path_at t h.pre; attr = h.attr })) (on_self (record { steps = path_at t c.pre; attr = c.attr }) (record { steps = path_at t h.pre; attr = h.attr })) e) [
-    inl d ↦ absurd (false≢true (subst (λ x. ((x && is_prefix (path_at t h.pre) (path_at t c.pre)) && not (nat_eq c.attr 0 && is_same (path_at t h.pre) (path_at t c.pre))) ≡ true) z d))
+  | inl d ↦ absurd (false≢true (subst (λ x. ((x && is_prefix (path_at t h.pre) (path_at t c.pre)) && not (nat_eq c.attr 0 && is_same (path_at t h.pre) (path_at t c.pre))) ≡ true) z d))
   | inr d ↦ (let p = same-place t c h b l m d in (p.0, inl (refl, p.1)))
-  ]
+]
 holds-plain a.Attribute t c h b l m z e =
     let p = and_parts (nat_eq c.attr 0 && not (nat_eq h.attr 0)) (is_same (path_at t c.pre) (path_at t h.pre)) e in
     let q = and_parts (nat_eq c.attr 0) (not (nat_eq h.attr 0)) p.0 in
@@ -106,15 +106,15 @@ holds axis t c h b n m z e = go (is_lone t) refl
   where
     go : (d : Bool) → is_lone t ≡ d → Holds axis c h
     go true l =
-      let p = lone-parts t (place_of c) l n in
-      let q = lone-parts t (place_of h) l m in
-      let from : node_at t (place_of c) ≡ root-path = ap (λ x. cond x root-path (record { steps = path_at t c.pre; attr = c.attr })) l in
-      let to : node_at t (place_of h) ≡ root-path = ap (λ x. cond x root-path (record { steps = path_at t h.pre; attr = h.attr })) l in
-      (p.0 ∙ sym q.0, inl (holds-lone axis (subst (λ x. on_axis axis x root-path ≡ true) from (subst (λ x. on_axis axis (node_at t (place_of c)) x ≡ true) to e)), p.1 ∙ sym q.1))
+        let p = lone-parts t (place_of c) l n in
+        let q = lone-parts t (place_of h) l m in
+        let from : node_at t (place_of c) ≡ root-path = ap (λ x. cond x root-path (record { steps = path_at t c.pre; attr = c.attr })) l in
+        let to : node_at t (place_of h) ≡ root-path = ap (λ x. cond x root-path (record { steps = path_at t h.pre; attr = h.attr })) l in
+        (p.0 ∙ sym q.0, inl (holds-lone axis (subst (λ x. on_axis axis x root-path ≡ true) from (subst (λ x. on_axis axis (node_at t (place_of c)) x ≡ true) to e)), p.1 ∙ sym q.1))
     go false l =
-      let from : node_at t (place_of c) ≡ record { steps = path_at t c.pre; attr = c.attr } = ap (λ x. cond x root-path (record { steps = path_at t c.pre; attr = c.attr })) l in
-      let to : node_at t (place_of h) ≡ record { steps = path_at t h.pre; attr = h.attr } = ap (λ x. cond x root-path (record { steps = path_at t h.pre; attr = h.attr })) l in
-      holds-plain axis t c h b (node-row t (place_of c) b n) (node-row t (place_of h) b m) (ne_eqb h.attr 0 (λ x. omega arith))
+        let from : node_at t (place_of c) ≡ record { steps = path_at t c.pre; attr = c.attr } = ap (λ x. cond x root-path (record { steps = path_at t c.pre; attr = c.attr })) l in
+        let to : node_at t (place_of h) ≡ record { steps = path_at t h.pre; attr = h.attr } = ap (λ x. cond x root-path (record { steps = path_at t h.pre; attr = h.attr })) l in
+        holds-plain axis t c h b (node-row t (place_of c) b n) (node-row t (place_of h) b m) (ne_eqb h.attr 0 (λ x. omega arith))
         (subst (λ x. on_axis axis x (record { steps = path_at t h.pre; attr = h.attr }) ≡ true) from (subst (λ x. on_axis axis (node_at t (place_of c)) x ≡ true) to e))
 
 pub attributes-complete : (axis : Axis) (tested : NodeTest) (t : Tree TextId) (seen : List Seen) (cs : List Ctx) (h : Ctx) → RowsTell t → is_sound id_eq is_empty_id t ≡ true → AreNodes t cs
@@ -127,25 +127,26 @@ attributes-complete axis tested t seen cs h b s nodes found name z r =
     let w = holds axis t c h b (nodes c r.1) name z p.0 in
     let hit : Hit = record { pre = h.pre; attr = h.attr; iter = h.iter } in
     in-attribute_parts axis tested t seen cs c hit r.1 (elim w.1 [
-      inl o ↦ itself c r.2 q.0 q.1 q.2 w.0 o.0 o.1
-    | inr o ↦ of-row c r.1 r.2 q.0 q.1 q.2 w.0 o.0 o.1
+      | inl o ↦ itself c r.2 q.0 q.1 q.2 w.0 o.0 o.1
+      | inr o ↦ of-row c r.1 r.2 q.0 q.1 q.2 w.0 o.0 o.1
     ])
   where
     itself : (c : Ctx) → c.iter ≡ h.iter → (x : TextId × TextId) → nth_pair (line_in (enc t) h.pre).attributes h.attr ≡ Some x → selects id_eq axis (test_of tested) AttributeNode (Some x.0) ≡ true → c.pre ≡ h.pre → holds_self axis ≡ true → c.attr ≡ h.attr → In (record { pre = h.pre; attr = h.attr; iter = h.iter }) (attribute_part axis tested t seen c)
     itself c e x q f p o d =
-      let zero : nat_eq c.attr 0 ≡ false = ne_eqb c.attr 0 (λ y. omega (arith, d)) in
-      let pair : nth_pair (line_in (enc t) c.pre).attributes c.attr ≡ Some x = ap (λ y. nth_pair (line_in (enc t) y).attributes c.attr) p ∙ ap (nth_pair (line_in (enc t) h.pre).attributes) d ∙ q in
-      let same_hit : record { pre = h.pre; attr = h.attr; iter = h.iter } ≡ record { pre = c.pre; attr = c.attr; iter = c.iter } = ap (λ y. record { pre = y; attr = h.attr; iter = h.iter }) (sym p) ∙ ap (λ y. record { pre = c.pre; attr = y; iter = h.iter }) (sym d) ∙ ap (λ y. record { pre = c.pre; attr = c.attr; iter = y }) (sym e) in
-      subst (λ (y : Hit). In y (attribute_part axis tested t seen c)) (sym same_hit) (rw (zero, o, pair) (to-hit axis tested c c.attr x f))
+        let zero : nat_eq c.attr 0 ≡ false = ne_eqb c.attr 0 (λ y. omega (arith, d)) in
+        let pair : nth_pair (line_in (enc t) c.pre).attributes c.attr ≡ Some x = ap (λ y. nth_pair (line_in (enc t) y).attributes c.attr) p ∙ ap (nth_pair (line_in (enc t) h.pre).attributes) d ∙ q in
+        let same_hit : record { pre = h.pre; attr = h.attr; iter = h.iter } ≡ record { pre = c.pre; attr = c.attr; iter = c.iter } = ap (λ y. record { pre = y; attr = h.attr; iter = h.iter }) (sym p) ∙ ap (λ y. record { pre = c.pre; attr = y; iter = h.iter }) (sym d) ∙ ap (λ y. record { pre = c.pre; attr = c.attr; iter = y }) (sym e) in
+        subst (λ (y : Hit). In y (attribute_part axis tested t seen c)) (sym same_hit) (rw (zero, o, pair) (to-hit axis tested c c.attr x f))
+
     of-row : (c : Ctx) → In c cs → c.iter ≡ h.iter → (x : TextId × TextId) → nth_pair (line_in (enc t) h.pre).attributes h.attr ≡ Some x → selects id_eq axis (test_of tested) AttributeNode (Some x.0) ≡ true → c.pre ≡ h.pre → axis ≡ a.Attribute → c.attr ≡ 0 → In (record { pre = h.pre; attr = h.attr; iter = h.iter }) (attribute_part axis tested t seen c)
     of-row c i e x q f p o d =
-      let zero : nat_eq c.attr 0 ≡ true = eq-eqb c.attr 0 d in
-      let is_axis : is_attribute_axis axis ≡ true = ap is_attribute_axis o in
-      let own = found c i o d in
-      let kind : is_element (line_in (enc t) c.pre).kind ≡ true = ap (λ y. is_element (line_in (enc t) y).kind) p ∙ ap is_element (owner-element t (place_of h) s name z) in
-      let place : ℕ = h.attr - 1 in
-      let number : h.attr ≡ suc place = omega arith in
-      let one : 1 + place ≡ h.attr = omega arith in
-      let pair : nth_pair (line_in (enc t) c.pre).attributes (suc place) ≡ Some x = ap (λ y. nth_pair (line_in (enc t) y).attributes (suc place)) p ∙ ap (nth_pair (line_in (enc t) h.pre).attributes) (sym number) ∙ q in
-      let same_hit : record { pre = h.pre; attr = h.attr; iter = h.iter } ≡ record { pre = c.pre; attr = 1 + place; iter = c.iter } = ap (λ y. record { pre = y; attr = h.attr; iter = h.iter }) (sym p) ∙ ap (λ y. record { pre = c.pre; attr = y; iter = h.iter }) (sym one) ∙ ap (λ y. record { pre = c.pre; attr = 1 + place; iter = y }) (sym e) in
-      subst (λ (y : Hit). In y (attribute_part axis tested t seen c)) (sym same_hit) (rw (zero, is_axis, own, kind) (to-all axis tested c 1 (line_in (enc t) c.pre).attributes place x pair f))
+        let zero : nat_eq c.attr 0 ≡ true = eq-eqb c.attr 0 d in
+        let is_axis : is_attribute_axis axis ≡ true = ap is_attribute_axis o in
+        let own = found c i o d in
+        let kind : is_element (line_in (enc t) c.pre).kind ≡ true = ap (λ y. is_element (line_in (enc t) y).kind) p ∙ ap is_element (owner-element t (place_of h) s name z) in
+        let place : ℕ = h.attr - 1 in
+        let number : h.attr ≡ suc place = omega arith in
+        let one : 1 + place ≡ h.attr = omega arith in
+        let pair : nth_pair (line_in (enc t) c.pre).attributes (suc place) ≡ Some x = ap (λ y. nth_pair (line_in (enc t) y).attributes (suc place)) p ∙ ap (nth_pair (line_in (enc t) h.pre).attributes) (sym number) ∙ q in
+        let same_hit : record { pre = h.pre; attr = h.attr; iter = h.iter } ≡ record { pre = c.pre; attr = 1 + place; iter = c.iter } = ap (λ y. record { pre = y; attr = h.attr; iter = h.iter }) (sym p) ∙ ap (λ y. record { pre = c.pre; attr = y; iter = h.iter }) (sym one) ∙ ap (λ y. record { pre = c.pre; attr = 1 + place; iter = y }) (sym e) in
+        subst (λ (y : Hit). In y (attribute_part axis tested t seen c)) (sym same_hit) (rw (zero, is_axis, own, kind) (to-all axis tested c 1 (line_in (enc t) c.pre).attributes place x pair f))

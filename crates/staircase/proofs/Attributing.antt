@@ -58,11 +58,11 @@ owner-element t p s e z = go (is_lone t) refl e
     go : (b : Bool) → is_lone t ≡ b → cond b (nat_eq p.pre 0 && nat_eq p.attr 1) (nat_lt p.pre (length (enc t)) && nat_le p.attr (length (line_in (enc t) p.pre).attributes)) ≡ true → (line_in (enc t) p.pre).kind ≡ k.Element
     go true l e = (let q : p.pre ≡ 0 = eqb-true p.pre 0 (and_parts (nat_eq p.pre 0) (nat_eq p.attr 1) e).0 in subst (λ n. (line_in (enc t) n).kind ≡ k.Element) (sym q) (lone-line t l))
     go false l e =
-      let b = and_parts (nat_lt p.pre (length (enc t))) (nat_le p.attr (length (line_in (enc t) p.pre).attributes)) e in
-      let h = (held t s p.pre (ltb-true p.pre (length (enc t)) b.0)).0 in
-      let some : length (line_in (enc t) p.pre).attributes ≡ length (row_attributes (root_of h.sub)) = ap (λ (z : Line TextId). length z.attributes) h.line_is in
-      let le = leb-true p.attr (length (line_in (enc t) p.pre).attributes) b.1 in
-      ap (λ (z : Line TextId). z.kind) h.line_is ∙ element-line (root_of h.sub) (omega arith)
+        let b = and_parts (nat_lt p.pre (length (enc t))) (nat_le p.attr (length (line_in (enc t) p.pre).attributes)) e in
+        let h = (held t s p.pre (ltb-true p.pre (length (enc t)) b.0)).0 in
+        let some : length (line_in (enc t) p.pre).attributes ≡ length (row_attributes (root_of h.sub)) = ap (λ (z : Line TextId). length z.attributes) h.line_is in
+        let le = leb-true p.attr (length (line_in (enc t) p.pre).attributes) b.1 in
+        ap (λ (z : Line TextId). z.kind) h.line_is ∙ element-line (root_of h.sub) (omega arith)
 
 is-element : (x : Kind) → is_element x ≡ true → x ≡ k.Element
 is-element k.Element e = refl

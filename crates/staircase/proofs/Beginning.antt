@@ -47,10 +47,10 @@ own-rows a.PrecedingSibling t cs rows s e = absurd (false≢true s)
 
 pub down-start : (axis : Axis) (t : Tree TextId) (cs : List Ctx) (rows : List ℕ) → RowsTell t → Ascending cs → AreNodes t cs → rows ≡ own axis cs → Reached (enc t) rows rows 0 0
 down-start axis t cs rows b up nodes e = record {
-    comes = own-start axis t cs rows b up nodes e;
-    within = omega arith;
-    reached = λ w l. ap (λ z. z || any (λ c. below (enc t) c w) rows) (sym (le-ltb w 0 (omega arith)))
-  }
+  comes = own-start axis t cs rows b up nodes e;
+  within = omega arith;
+  reached = λ w l. ap (λ z. z || any (λ c. below (enc t) c w) rows) (sym (le-ltb w 0 (omega arith)));
+}
 
 down-same : (axis : Axis) (t : Tree TextId) (cs : List Ctx) (v : ℕ) → RowsTell t → UpFrom 0 (length (enc t)) (own axis cs) → is_down axis ≡ true → v < length (enc t) → (has v (own axis cs) || any (λ c. below (enc t) c v) (own axis cs)) ≡ touched axis t (places cs) v
 down-same a.Descendant t cs v b u s l = down-touches a.Descendant t cs v b u l
@@ -77,7 +77,7 @@ pub before-rows : (axis : Axis) (t : Tree TextId) (cs : List Ctx) (rows : List �
 before-rows axis t cs rows end b n up nodes s e f =
     let own_is : rows ≡ own a.Preceding cs = e ∙ ap (λ z. own z cs) s in
     picked-like (λ v. nat_lt v end) (touched a.Preceding t (places cs)) (length (enc t))
-      (λ v l. ap (nat_lt v) (f ∙ ap end_of own_is) ∙ before-touches a.Preceding t cs v n (own-up a.Preceding t cs b up nodes))
+    (λ v l. ap (nat_lt v) (f ∙ ap end_of own_is) ∙ before-touches a.Preceding t cs v n (own-up a.Preceding t cs b up nodes))
     ∙ ap (λ z. touched_rows z t (places cs)) (sym s)
 
 owner-row : (cs : List Ctx) (w : ℕ) → has w (owning cs) ≡ true → has w (own a.Following cs) ≡ true
@@ -88,6 +88,7 @@ owner-row cs w h =
     both : (b : Bool) → cond b true true ≡ true
     both true = refl
     both false = refl
+
     none-some : {x : ℕ} → None ≡ Some x → ⊥
     none-some e = cc
 
@@ -98,14 +99,14 @@ after-start axis t cs rows owners b n up nodes s e f =
       comes = own-start axis t cs rows b up nodes e;
       owning = comes-all (length (enc t)) owners (subst (λ z. UpFrom 0 (length (enc t)) z) (sym f) (owning-up t cs b up nodes));
       own = λ w h. ap (has w) own_is ∙ owner-row cs w (sym (ap (has w) f) ∙ h);
-      beyond_rows = λ w l m. ap (λ z. z || (any (λ c. follows (enc t) c w) rows || any (λ c. nat_lt c w) owners)) (sym (lt-leb 4294967295 w (omega arith)))
+      beyond_rows = λ w l m. ap (λ z. z || (any (λ c. follows (enc t) c w) rows || any (λ c. nat_lt c w) owners)) (sym (lt-leb 4294967295 w (omega arith)));
     }
 
 pub after-rows : (axis : Axis) (t : Tree TextId) (cs : List Ctx) (rows owners : List ℕ) → RowsTell t → AreNodes t cs → axis ≡ a.Following → rows ≡ own axis cs → owners ≡ owning cs → picked (λ v. has v rows || (any (λ c. follows (enc t) c v) rows || any (λ c. nat_lt c v) owners)) (length (enc t)) ≡ touched_rows axis t (places cs)
 after-rows axis t cs rows owners b nodes s e f =
     let own_is : rows ≡ own a.Following cs = e ∙ ap (λ z. own z cs) s in
     picked-like (λ v. has v rows || (any (λ c. follows (enc t) c v) rows || any (λ c. nat_lt c v) owners)) (touched a.Following t (places cs)) (length (enc t))
-      (λ v l. ap (λ z. has v z || (any (λ c. follows (enc t) c v) z || any (λ c. nat_lt c v) owners)) own_is ∙ ap (λ z. has v (own a.Following cs) || (any (λ c. follows (enc t) c v) (own a.Following cs) || any (λ c. nat_lt c v) z)) f ∙ after-touches t cs v b nodes l)
+    (λ v l. ap (λ z. has v z || (any (λ c. follows (enc t) c v) z || any (λ c. nat_lt c v) owners)) own_is ∙ ap (λ z. has v (own a.Following cs) || (any (λ c. follows (enc t) c v) (own a.Following cs) || any (λ c. nat_lt c v) z)) f ∙ after-touches t cs v b nodes l)
     ∙ ap (λ z. touched_rows z t (places cs)) (sym s)
 
 -- ---- child
@@ -124,5 +125,5 @@ pub kids-rows : (axis : Axis) (t : Tree TextId) (cs : List Ctx) (rows : List ℕ
 kids-rows axis t cs rows b up nodes s e =
     let own_is : rows ≡ own a.Child cs = e ∙ ap (λ z. own z cs) s in
     picked-like (λ v. has v rows || any (λ c. child (enc t) c v) rows) (touched a.Child t (places cs)) (length (enc t))
-      (λ v l. ap (λ z. has v z || any (λ c. child (enc t) c v) z) own_is ∙ child-touches a.Child t cs v b (own-up a.Child t cs b up nodes) l)
+    (λ v l. ap (λ z. has v z || any (λ c. child (enc t) c v) z) own_is ∙ child-touches a.Child t cs v b (own-up a.Child t cs b up nodes) l)
     ∙ ap (λ z. touched_rows z t (places cs)) (sym s)

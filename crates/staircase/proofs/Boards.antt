@@ -32,12 +32,12 @@ mutual
   level-forest l (one_more t ts) k h =
       let whole : length (encs_at l (one_more t ts)) ≡ length (enc_at l t) + length (encs_at l ts) = length-append (enc_at l t) (encs_at l ts) in
       elim (cases_lt k (length (enc_at l t))) [
-        inl a ↦ (let e : (slice_index_or (encs_at l (one_more t ts)) k no_line).level ≡ (slice_index_or (enc_at l t) k no_line).level = ap (λ z. z.level) (at-left (enc_at l t) (encs_at l ts) k no_line a) in
-                 let r = level-tree l t k a in omega arith)
-      | inr g ↦ (let m : ℕ = k - length (enc_at l t) in
-                 let place : k ≡ length (enc_at l t) + m = omega arith in
-                 let e : (slice_index_or (encs_at l (one_more t ts)) k no_line).level ≡ (slice_index_or (encs_at l ts) m no_line).level = ap (λ z. (slice_index_or (encs_at l (one_more t ts)) z no_line).level) place ∙ ap (λ z. z.level) (at-right (enc_at l t) (encs_at l ts) m no_line) in
-                 let r = level-forest l ts m (omega (arith, whole)) in omega arith)
+        | inl a ↦ (let e : (slice_index_or (encs_at l (one_more t ts)) k no_line).level ≡ (slice_index_or (enc_at l t) k no_line).level = ap (λ z. z.level) (at-left (enc_at l t) (encs_at l ts) k no_line a) in
+            let r = level-tree l t k a in omega arith)
+        | inr g ↦ (let m : ℕ = k - length (enc_at l t) in
+            let place : k ≡ length (enc_at l t) + m = omega arith in
+            let e : (slice_index_or (encs_at l (one_more t ts)) k no_line).level ≡ (slice_index_or (encs_at l ts) m no_line).level = ap (λ z. (slice_index_or (encs_at l (one_more t ts)) z no_line).level) place ∙ ap (λ z. z.level) (at-right (enc_at l t) (encs_at l ts) m no_line) in
+            let r = level-forest l ts m (omega (arith, whole)) in omega arith)
       ]
 
 -- ---- elements of the list
@@ -77,16 +77,17 @@ rising-more xs s r f = λ i j d h l. here i j d h l (cases_lt j (length xs))
   where
     long : length (xs ++ s ∷ []) ≡ length xs + 1
     long = length-append xs (s ∷ [])
+
     here : (i j : ℕ) (d : Seen) → i < j → j < length (xs ++ s ∷ []) → (j < length xs) ⊎ (length xs ≤ j) → (slice_index_or (xs ++ s ∷ []) i d).pre < (slice_index_or (xs ++ s ∷ []) j d).pre
     here i j d h l (inl m) =
-      let ei : (slice_index_or (xs ++ s ∷ []) i d).pre ≡ (slice_index_or xs i d).pre = ap (λ (z : Seen). z.pre) (at-left xs (s ∷ []) i d (omega arith)) in
-      let ej : (slice_index_or (xs ++ s ∷ []) j d).pre ≡ (slice_index_or xs j d).pre = ap (λ (z : Seen). z.pre) (at-left xs (s ∷ []) j d m) in
-      let less = r i j d h m in omega arith
+        let ei : (slice_index_or (xs ++ s ∷ []) i d).pre ≡ (slice_index_or xs i d).pre = ap (λ (z : Seen). z.pre) (at-left xs (s ∷ []) i d (omega arith)) in
+        let ej : (slice_index_or (xs ++ s ∷ []) j d).pre ≡ (slice_index_or xs j d).pre = ap (λ (z : Seen). z.pre) (at-left xs (s ∷ []) j d m) in
+        let less = r i j d h m in omega arith
     here i j d h l (inr g) =
-      let last : j ≡ length xs + 0 = omega (arith, long) in
-      let ei : (slice_index_or (xs ++ s ∷ []) i d).pre ≡ (slice_index_or xs i d).pre = ap (λ (z : Seen). z.pre) (at-left xs (s ∷ []) i d (omega (arith, long))) in
-      let ej : (slice_index_or (xs ++ s ∷ []) j d).pre ≡ s.pre = ap (λ z. (slice_index_or (xs ++ s ∷ []) z d).pre) last ∙ ap (λ (z : Seen). z.pre) (at-right xs (s ∷ []) 0 d) in
-      let less = f i d (omega (arith, long)) in omega arith
+        let last : j ≡ length xs + 0 = omega (arith, long) in
+        let ei : (slice_index_or (xs ++ s ∷ []) i d).pre ≡ (slice_index_or xs i d).pre = ap (λ (z : Seen). z.pre) (at-left xs (s ∷ []) i d (omega (arith, long))) in
+        let ej : (slice_index_or (xs ++ s ∷ []) j d).pre ≡ s.pre = ap (λ z. (slice_index_or (xs ++ s ∷ []) z d).pre) last ∙ ap (λ (z : Seen). z.pre) (at-right xs (s ∷ []) 0 d) in
+        let less = f i d (omega (arith, long)) in omega arith
 
 board-rises : (axis : Axis) (tested : NodeTest) (t : Tree TextId) (wants : ℕ → Bool) (n : ℕ) → IsRising (board axis tested t wants n)
 board-rises axis tested t wants zero = λ i j d h l. absurd (omega arith)
@@ -98,15 +99,15 @@ board-rises axis tested t wants (suc n) = subst IsRising (sym (board-more axis t
 
 pub board-rows : (axis : Axis) (tested : NodeTest) (t : Tree TextId) (wants : ℕ → Bool) → RowsTell t → length (enc t) < 4294967296 → AreRows (board axis tested t wants (length (enc t)))
 board-rows axis tested t wants b n = record {
-    rising = board-rises axis tested t wants (length (enc t));
-    small = λ s h.
+  rising = board-rises axis tested t wants (length (enc t));
+  small = λ s h.
       let r = in-board axis tested t wants (length (enc t)) s h in
       let v : ℕ = r.0 in
       let ends = b.ends v r.1 in
       let deep = level-tree 0 t v r.1 in
       let small : IsSmall (seen_of axis tested t v) = record { pre = omega (arith, r.1); last = omega arith; level = omega (arith, r.1) } in
-      subst IsSmall (sym r.3) small
-  }
+      subst IsSmall (sym r.3) small;
+}
 
 -- the row of a node that was read
 pub board-found : (axis : Axis) (tested : NodeTest) (t : Tree TextId) (wants : ℕ → Bool) (n v : ℕ) → v < n → wants v ≡ true → row_found (board axis tested t wants n) v ≡ Some (seen_of axis tested t v)
@@ -125,8 +126,8 @@ found-board axis tested t wants n v s e = go (board axis tested t wants n) e (λ
       where
         at : (b : Bool) → nat_eq x.pre v ≡ b → cond b (Some x) (row_found xs v) ≡ Some s → (row_found xs v ≡ Some s → s ≡ seen_of axis tested t v) → s ≡ seen_of axis tested t v
         at true g e k =
-          let r = f x (inl refl) in
-          let q : s ≡ x = cc in
-          let w : r.0 ≡ v = sym (ap (λ (z : Seen). z.pre) r.3) ∙ eqb-true x.pre v g in
-          q ∙ r.3 ∙ ap (seen_of axis tested t) w
+            let r = f x (inl refl) in
+            let q : s ≡ x = cc in
+            let w : r.0 ≡ v = sym (ap (λ (z : Seen). z.pre) r.3) ∙ eqb-true x.pre v g in
+            q ∙ r.3 ∙ ap (seen_of axis tested t) w
         at false g e k = k e

@@ -46,10 +46,16 @@ frames-bound lines from a b (f ∷ fs) l h = (record { in_rows = h.0.in_rows; la
 -- later, where no frame's child is passed
 frame-later : (lines : List (Line TextId)) (from to bound : ℕ) (f : Frame) → from ≤ to → to ≤ f.child → FrameOk lines from bound f → FrameOk lines to bound f
 frame-later lines from to bound f l m h = record {
-    in_rows = h.in_rows; last = h.last; before = omega (arith, h.before); later = m; beyond = h.beyond; wider = h.wider; kid = h.kid;
-    none = λ w a b. h.none w (omega arith) b;
-    inside = λ w a b. h.inside w (omega arith) b
-  }
+  in_rows = h.in_rows;
+  last = h.last;
+  before = omega (arith, h.before);
+  later = m;
+  beyond = h.beyond;
+  wider = h.wider;
+  kid = h.kid;
+  none = λ w a b. h.none w (omega arith) b;
+  inside = λ w a b. h.inside w (omega arith) b;
+}
 
 frames-later : (lines : List (Line TextId)) (from to bound : ℕ) (fs : List Frame) → from ≤ to → to ≤ bound + 1 → FramesOk lines from bound fs → FramesOk lines to bound fs
 frames-later lines from to bound [] l m h = tt
@@ -63,9 +69,9 @@ frames-none lines from bound w (f ∷ fs) h l m = rw (h.0.none w l (omega (arith
 -- frames without a child left say nothing
 finished-none : (lines : List (Line TextId)) (from bound w : ℕ) (f : Frame) → FrameOk lines from bound f → f.last < f.child → from ≤ w → child lines f.pre w ≡ false
 finished-none lines from bound w f h l m = elim (cases_lt w f.child) [
-    inl a ↦ h.none w m a
+  | inl a ↦ h.none w m a
   | inr b ↦ past-child lines f.pre w (omega (arith, h.last))
-  ]
+]
 
 unfinished-ok : (lines : List (Line TextId)) (from bound : ℕ) (fs : List Frame) → FramesOk lines from bound fs → FramesOk lines from bound (unfinished fs)
 unfinished-ok lines from bound [] h = tt
@@ -97,10 +103,10 @@ unfinished-open (f ∷ fs) = go (nat_lt f.last f.child) refl (unfinished-open fs
 
 pub kids-finished : (lines : List (Line TextId)) (rows rest : List ℕ) (fs : List Frame) (from : ℕ) → KidsAhead lines rows rest fs from → KidsAhead lines rows rest (unfinished fs) from
 kids-finished lines rows rest fs from h = record {
-    comes = h.comes;
-    frames_ok = unfinished-ok lines from 0 fs h.frames_ok;
-    kids = λ w l. h.kids w l ∙ ap (λ z. z || any (λ c. child lines c w) rest) (sym (unfinished-same lines from 0 w fs h.frames_ok l))
-  }
+  comes = h.comes;
+  frames_ok = unfinished-ok lines from 0 fs h.frames_ok;
+  kids = λ w l. h.kids w l ∙ ap (λ z. z || any (λ c. child lines c w) rest) (sym (unfinished-same lines from 0 w fs h.frames_ok l));
+}
 
 -- ---- the next row
 
@@ -120,19 +126,24 @@ kids-at lines rows rest g fs from total at nests e h o l m none up w =
     let ok = h.frames_ok.0 in
     let ends = nests.ends g.pre ok.in_rows in
     let clear : (v : ℕ) → from ≤ v → v < at → (has v rows || any (λ c. child lines c v) rows) ≡ false = λ v a b.
-          let top : child lines g.pre v ≡ false = ok.none v a (omega arith) in
-          let others : any_frame (λ f. child lines f.pre v) fs ≡ false = frames-none lines from g.last v fs h.frames_ok.1 a (omega arith) in
-          let kids : any (λ c. child lines c v) rows ≡ false = h.kids v a ∙ rw (top, others) (none-kids lines at (length lines) rest up v b) in
-          rw (none v a b, kids) refl in
+    let top : child lines g.pre v ≡ false = ok.none v a (omega arith) in
+    let others : any_frame (λ f. child lines f.pre v) fs ≡ false = frames-none lines from g.last v fs h.frames_ok.1 a (omega arith) in
+    let kids : any (λ c. child lines c v) rows ≡ false = h.kids v a ∙ rw (top, others) (none-kids lines at (length lines) rest up v b) in
+    rw (none v a b, kids) refl in
     let there : (has at rows || any (λ c. child lines c at) rows) ≡ true = elim w [
-            inl q ↦ or_right (has at rows) (any (λ c. child lines c at) rows) (h.kids at l ∙ rw (ap (child lines g.pre) q ∙ ok.kid o) refl)
-          | inr t ↦ or_left (has at rows) (any (λ c. child lines c at) rows) t
-          ] in
-    (l, omega (arith, ok.last), there, record {
-      comes = comes-later rows rest from at (length lines) h.comes l none;
-      frames_ok = (frame-later lines from at 0 g l m ok, frames-later lines from at g.last fs l (omega arith) h.frames_ok.1);
-      kids = λ w a. h.kids w (omega arith)
-    }, clear)
+      | inl q ↦ or_right (has at rows) (any (λ c. child lines c at) rows) (h.kids at l ∙ rw (ap (child lines g.pre) q ∙ ok.kid o) refl)
+      | inr t ↦ or_left (has at rows) (any (λ c. child lines c at) rows) t
+    ] in (
+      l,
+      omega (arith, ok.last),
+      there,
+      record {
+        comes = comes-later rows rest from at (length lines) h.comes l none;
+        frames_ok = (frame-later lines from at 0 g l m ok, frames-later lines from at g.last fs l (omega arith) h.frames_ok.1);
+        kids = λ w a. h.kids w (omega arith);
+      },
+      clear,
+    )
 
 kids-top : (lines : List (Line TextId)) (rows rest : List ℕ) (g : Frame) (fs : List Frame) (from total at : ℕ) → Nests lines → length lines ≡ total → KidsAhead lines rows rest (g ∷ fs) from → g.child ≤ g.last → at ≡ earlier (first_of rest) g.child
     → NextIs (λ v. has v rows || any (λ c. child lines c v) rows) (λ at. KidsAhead lines rows rest (g ∷ fs) at) from total (Some at)
@@ -156,8 +167,8 @@ kids-next lines rows rest [] from total nests e h o None f = λ v l k.
 kids-next lines rows rest [] from total nests e h o (Some at) f =
     let k = comes-first rows rest from at (length lines) h.comes (sym f) in
     let clear : (v : ℕ) → from ≤ v → v < at → (has v rows || any (λ c. child lines c v) rows) ≡ false = λ v l m.
-          let two : any (λ c. child lines c v) rows ≡ false = h.kids v l ∙ none-kids lines at (length lines) rest (up-at at (length lines) rest from h.comes.up (sym f)) v m in
-          rw (k.none v l m, two) refl in
+    let two : any (λ c. child lines c v) rows ≡ false = h.kids v l ∙ none-kids lines at (length lines) rest (up-at at (length lines) rest from h.comes.up (sym f)) v m in
+    rw (k.none v l m, two) refl in
     (k.later, omega (arith, k.within), or_left (has at rows) (any (λ c. child lines c at) rows) k.there, record { comes = k.comes; frames_ok = tt; kids = λ w l. h.kids w (omega (arith, k.later)) }, clear)
 kids-next lines rows rest (g ∷ fs) from total nests e h o None f = cc
 kids-next lines rows rest (g ∷ fs) from total nests e h o (Some at) f = kids-top lines rows rest g fs from total at nests e h o (some-is at (earlier (first_of rest) g.child) f)
@@ -179,10 +190,15 @@ frame-advanced lines at last f nests h o q l e =
     let kid : child lines f.pre at ≡ true = subst (λ z. child lines f.pre z ≡ true) q (h.kid o) in
     let p = child-within lines f.pre at kid in
     record {
-      in_rows = h.in_rows; last = h.last; before = omega (arith, h.before); later = omega arith; beyond = omega arith; wider = h.wider;
+      in_rows = h.in_rows;
+      last = h.last;
+      before = omega (arith, h.before);
+      later = omega arith;
+      beyond = omega arith;
+      wider = h.wider;
       kid = λ m. subst (λ z. child lines f.pre z ≡ true) (next-is m) (nests.kids.next f.pre at h.in_rows l kid (omega (arith, h.last)));
       none = λ w a b. not-child lines f.pre w (λ c. (let r = child-within lines f.pre w c in let d = nests.kids.deeper at w (omega arith) (omega arith) l in omega (arith, r.2, p.2)));
-      inside = λ w a b. (let n = nests.nested at w (omega arith) (omega arith) (omega (arith, nests.ends at l)) in omega arith)
+      inside = λ w a b. (let n = nests.nested at w (omega arith) (omega arith) (omega (arith, nests.ends at l)) in omega arith);
     }
   where
     next-is : last + 1 ≤ f.last → suc (at + (line_in lines at).size) ≡ last + 1
@@ -195,9 +211,9 @@ record Past (lines : List (Line TextId)) (at last : ℕ) (fs : List Frame) : Typ
 
 first-past : (lines : List (Line TextId)) (at last : ℕ) (f : Frame) (fs : List Frame) → FrameOk lines (at + 1) 0 f → FramesOk lines (at + 1) f.last fs → last < f.child → last ≤ f.last → Past lines at last (f ∷ fs)
 first-past lines at last f fs h k l m = record {
-    ok = (h, k);
-    beyond = (record { in_rows = h.in_rows; last = h.last; before = h.before; later = h.later; beyond = l; wider = m; kid = h.kid; none = h.none; inside = h.inside }, k)
-  }
+  ok = (h, k);
+  beyond = (record { in_rows = h.in_rows; last = h.last; before = h.before; later = h.later; beyond = l; wider = m; kid = h.kid; none = h.none; inside = h.inside }, k);
+}
 
 frames-advanced : (lines : List (Line TextId)) (at last : ℕ) (fs : List Frame) → Nests lines → FramesOk lines at 0 fs → TopOpen fs → at < length lines → last ≡ at + (line_in lines at).size → Past lines at last (advanced at last fs)
 frames-advanced lines at last [] nests h o l e = record { ok = tt; beyond = tt }
@@ -205,24 +221,30 @@ frames-advanced lines at last (f ∷ fs) nests h o l e = go (nat_eq f.child at) 
   where
     below : at ≤ f.last → last ≤ f.last
     below m = (let n = nests.nested f.pre at h.0.before (omega (arith, h.0.last)) l in omega (arith, h.0.last))
+
     go : (b : Bool) → nat_eq f.child at ≡ b → Past lines at last (cond b (record { pre = f.pre; child = last + 1; last = f.last } ∷ fs) (f ∷ fs))
     go true q =
-      let r : f.child ≡ at = eqb-true f.child at q in
-      first-past lines at last (record { pre = f.pre; child = last + 1; last = f.last }) fs (frame-advanced lines at last f nests h.0 o r l e) (frames-past lines at f.last fs (omega arith) h.1) (omega arith) (below (omega arith))
+        let r : f.child ≡ at = eqb-true f.child at q in
+        first-past lines at last (record { pre = f.pre; child = last + 1; last = f.last }) fs (frame-advanced lines at last f nests h.0 o r l e) (frames-past lines at f.last fs (omega arith) h.1) (omega arith) (below (omega arith))
     go false q =
-      let ne : f.child ≡ at → ⊥ = eqb-false f.child at q in
-      let less : at < f.child = omega (arith, h.0.later, ne) in
-      let in_kid = h.0.inside at (omega arith) less in
-      first-past lines at last f fs (frame-past lines at 0 f less h.0) (frames-past lines at f.last fs (omega arith) h.1) (omega arith) (below (omega arith))
+        let ne : f.child ≡ at → ⊥ = eqb-false f.child at q in
+        let less : at < f.child = omega (arith, h.0.later, ne) in
+        let in_kid = h.0.inside at (omega arith) less in
+        first-past lines at last f fs (frame-past lines at 0 f less h.0) (frames-past lines at f.last fs (omega arith) h.1) (omega arith) (below (omega arith))
 
 -- the frame of a row of the context that was read
 new-frame : (lines : List (Line TextId)) (at last : ℕ) → Nests lines → at < length lines → last ≡ at + (line_in lines at).size → FrameOk lines (at + 1) 0 (record { pre = at; child = at + 1; last = last })
 new-frame lines at last nests l e = record {
-    in_rows = l; last = e; before = omega arith; later = omega arith; beyond = omega arith; wider = omega arith;
-    kid = λ m. (let s : suc at ≡ at + 1 = omega arith in subst (λ z. child lines at z ≡ true) s (nests.kids.first at l (omega arith)));
-    none = λ w a b. absurd (omega arith);
-    inside = λ w a b. absurd (omega arith)
-  }
+  in_rows = l;
+  last = e;
+  before = omega arith;
+  later = omega arith;
+  beyond = omega arith;
+  wider = omega arith;
+  kid = λ m. (let s : suc at ≡ at + 1 = omega arith in subst (λ z. child lines at z ≡ true) s (nests.kids.first at l (omega arith)));
+  none = λ w a b. absurd (omega arith);
+  inside = λ w a b. absurd (omega arith);
+}
 
 advanced-same : (lines : List (Line TextId)) (at last w : ℕ) (fs : List Frame) → any_frame (λ f. child lines f.pre w) (advanced at last fs) ≡ any_frame (λ f. child lines f.pre w) fs
 advanced-same lines at last w [] = refl
@@ -245,12 +267,13 @@ kids-enter lines rows rest fs at last nests h o l e =
     record {
       comes = comes-past rows rest at (length lines) h.comes;
       frames_ok = entered (is_first at rest) past;
-      kids = λ w m. h.kids w (omega arith) ∙ ap (λ z. z || any (λ c. child lines c w) rest) (sym (advanced-same lines at last w fs)) ∙ same rest w
+      kids = λ w m. h.kids w (omega arith) ∙ ap (λ z. z || any (λ c. child lines c w) rest) (sym (advanced-same lines at last w fs)) ∙ same rest w;
     }
   where
     entered : (b : Bool) → Past lines at last (advanced at last fs) → FramesOk lines (at + 1) 0 (with_frame b (record { pre = at; child = at + 1; last = last }) (advanced at last fs))
     entered true p = (new-frame lines at last nests l e, p.beyond)
     entered false p = p.ok
+
     same : (rest : List ℕ) (w : ℕ) → (any_frame (λ f. child lines f.pre w) (advanced at last fs) || any (λ c. child lines c w) rest) ≡ (any_frame (λ f. child lines f.pre w) (with_frame (is_first at rest) (record { pre = at; child = at + 1; last = last }) (advanced at last fs)) || any (λ c. child lines c w) (without at rest))
     same [] w = refl
     same (x ∷ xs) w = go (nat_eq x at) refl

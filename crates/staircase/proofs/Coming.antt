@@ -13,9 +13,9 @@ has-none a n w (x ∷ xs) u l = rw (ne_eqb x w (λ e. omega (arith, u.0)), has-n
 pub has-below : (a n w : ℕ) (xs : List ℕ) → UpFrom a n xs → has w xs ≡ true → (a ≤ w) × (w < n)
 has-below a n w [] u h = absurd (false≢true h)
 has-below a n w (x ∷ xs) u h = elim (or_cases (nat_eq x w) (has w xs) h) [
-    inl e ↦ (let q : x ≡ w = eqb-true x w e in (omega (arith, u.0), omega (arith, u.1)))
+  | inl e ↦ (let q : x ≡ w = eqb-true x w e in (omega (arith, u.0), omega (arith, u.1)))
   | inr r ↦ (let k = has-below (suc x) n w xs u.2 r in (omega (arith, k.0, u.0), k.1))
-  ]
+]
 
 pub any-none : (p : ℕ → Bool) (a n : ℕ) (xs : List ℕ) → UpFrom a n xs → ((c : ℕ) → a ≤ c → c < n → p c ≡ false) → any p xs ≡ false
 any-none p a n [] u h = refl
@@ -47,7 +47,7 @@ comes-first rows (x ∷ xs) from at n c e =
       within = c.up.1;
       there = c.same x c.up.0 ∙ rw (eq-eqb x x refl) refl;
       comes = record { up = (omega arith, c.up.1, c.up.2); same = λ w h. c.same w (omega (arith, c.up.0)) };
-      none = λ w h l. c.same w h ∙ rw (ne_eqb x w (λ y. omega arith), has-none (suc x) n w xs c.up.2 (omega arith)) refl
+      none = λ w h l. c.same w h ∙ rw (ne_eqb x w (λ y. omega arith), has-none (suc x) n w xs c.up.2 (omega arith)) refl;
     })
 
 pub comes-none : (rows rest : List ℕ) (from n : ℕ) → Comes rows rest from n → first_of rest ≡ None → (w : ℕ) → from ≤ w → has w rows ≡ false
@@ -69,15 +69,15 @@ comes-past rows (x ∷ xs) at n c = go (nat_eq x at) refl
   where
     go : (b : Bool) → nat_eq x at ≡ b → Comes rows (cond b xs (x ∷ xs)) (at + 1) n
     go true e =
-      let q : x ≡ at = eqb-true x at e in
-      let s : suc x ≡ at + 1 = omega arith in
-      record {
-        up = subst (λ z. UpFrom z n xs) s c.up.2;
-        same = λ w h. c.same w (omega arith) ∙ rw (ne_eqb x w (λ y. omega arith)) refl
-      }
+        let q : x ≡ at = eqb-true x at e in
+        let s : suc x ≡ at + 1 = omega arith in
+        record {
+          up = subst (λ z. UpFrom z n xs) s c.up.2;
+          same = λ w h. c.same w (omega arith) ∙ rw (ne_eqb x w (λ y. omega arith)) refl;
+        }
     go false e =
-      let ne : x ≡ at → ⊥ = eqb-false x at e in
-      record { up = (omega (arith, c.up.0, ne), c.up.1, c.up.2); same = λ w h. c.same w (omega arith) }
+        let ne : x ≡ at → ⊥ = eqb-false x at e in
+        record { up = (omega (arith, c.up.0, ne), c.up.1, c.up.2); same = λ w h. c.same w (omega arith) }
 
 -- the row is among the rest exactly where it comes first
 pub first-is : (rows rest : List ℕ) (at n : ℕ) → Comes rows rest at n → is_first at rest ≡ has at rows

@@ -25,12 +25,12 @@ one-ascending [] (y ∷ ys) a b f g = absurd (g y (inl refl))
 one-ascending (x ∷ xs) [] a b f g = absurd (f x (inl refl))
 one-ascending (x ∷ xs) (y ∷ ys) a b f g =
     let e : x ≡ y = elim (f x (inl refl)) [
-            inl e ↦ e
-          | inr r ↦ elim (g y (inl refl)) [ inl e ↦ sym e | inr s ↦ absurd (not-both x y (after-in x y xs a.0 s) (after-in y x ys b.0 r)) ]
-          ] in
+      | inl e ↦ e
+      | inr r ↦ elim (g y (inl refl)) [ inl e ↦ sym e | inr s ↦ absurd (not-both x y (after-in x y xs a.0 s) (after-in y x ys b.0 r)) ]
+    ] in
     let rest : xs ≡ ys = one-ascending xs ys a.1 b.1
-          (λ h k. elim (f h (inr k)) [ inl q ↦ absurd (self x (subst (λ (z : Ctx). before x z ≡ true) (q ∙ sym e) (after-in x h xs a.0 k))) | inr r ↦ r ])
-          (λ h k. elim (g h (inr k)) [ inl q ↦ absurd (self y (subst (λ (z : Ctx). before y z ≡ true) (q ∙ e) (after-in y h ys b.0 k))) | inr r ↦ r ]) in
+    (λ h k. elim (f h (inr k)) [ inl q ↦ absurd (self x (subst (λ (z : Ctx). before x z ≡ true) (q ∙ sym e) (after-in x h xs a.0 k))) | inr r ↦ r ])
+    (λ h k. elim (g h (inr k)) [ inl q ↦ absurd (self y (subst (λ (z : Ctx). before y z ≡ true) (q ∙ e) (after-in y h ys b.0 k))) | inr r ↦ r ]) in
     ap (λ (z : Ctx). z ∷ xs) e ∙ ap (λ z. y ∷ z) rest
   where
     self : (c : Ctx) → before c c ≡ true → ⊥
@@ -75,8 +75,8 @@ rows-in c (x ∷ xs) h = elim h [ inl e ↦ (x, inl refl, e) | inr r ↦ (let k 
 pub count-hits : (p : ℕ → Bool) (n : ℕ) (hs : List Ctx) → Ascending hs → ((c : Ctx) → In c hs → (v : ℕ) × (v < n) × (p v ≡ true) × (c ≡ row_ctx v)) → ((v : ℕ) → v < n → p v ≡ true → In (row_ctx v) hs) → length hs ≡ count p n
 count-hits p n hs a f g =
     let same : hs ≡ map row_ctx (picked p n) = one-ascending hs (map row_ctx (picked p n)) a (picked-ascends p n)
-          (λ c i. let r = f c i in subst (λ (z : Ctx). In z (map row_ctx (picked p n))) (sym r.3) (in-rows r.0 (picked p n) (in-picked p n r.0 r.1 r.2)))
-          (λ c i. let r = rows-in c (picked p n) i in let q = picked-in p n r.0 r.1 in subst (λ (z : Ctx). In z hs) (sym r.2) (g r.0 q.0 q.1)) in
+    (λ c i. let r = f c i in subst (λ (z : Ctx). In z (map row_ctx (picked p n))) (sym r.3) (in-rows r.0 (picked p n) (in-picked p n r.0 r.1 r.2)))
+    (λ c i. let r = rows-in c (picked p n) i in let q = picked-in p n r.0 r.1 in subst (λ (z : Ctx). In z hs) (sym r.2) (g r.0 q.0 q.1)) in
     ap length same ∙ length-map (picked p n) row_ctx
 
 count-step : (p : ℕ → Bool) (n : ℕ) → count p (suc n) ≡ count p n + cond (p n) 1 0

@@ -18,12 +18,11 @@ in-parts x (z ∷ xs) ys h = elim h [ inl e ↦ inl (inl e) | inr r ↦ elim (in
 pub in-contains : {X : Type 0} (x : X) (xs : List X) → In x xs → Contains xs x
 in-contains x [] h = absurd h
 in-contains x (y ∷ ys) h = elim h [
-    inl e ↦ (0, omega arith, sym e)
+  | inl e ↦ (0, omega arith, sym e)
   | inr r ↦ (let k = in-contains x ys r in (suc k.0, omega (arith, k.1), k.2))
-  ]
+]
 
 pub contains-in : {X : Type 0} (x : X) (xs : List X) → Contains xs x → In x xs
-
 contains-in x [] h = absurd (omega (arith, h.1))
 contains-in x (y ∷ ys) h = go h.0 h.1 h.2 (λ k. contains-in x ys k)
   where

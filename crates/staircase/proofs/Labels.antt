@@ -87,7 +87,7 @@ first i level t ts k l long same may r =
       steps = steps;
       path = at-left (map (λ p. i ∷ p) (paths t)) (paths_from (i + 1) ts) k [] (omega arith) ∙ at-map i (paths t) k l;
       from = omega arith;
-      child = subst (λ z. HeldChild z (slice_index_or (encs_at level (one_more t ts)) k no_line)) (sym tree) (subst (λ z. HeldChild (subtree steps t) z) (sym line) child)
+      child = subst (λ z. HeldChild z (slice_index_or (encs_at level (one_more t ts)) k no_line)) (sym tree) (subst (λ z. HeldChild (subtree steps t) z) (sym line) child);
     }
 
 next : (i level : ℕ) (t : Tree TextId) (ts : Forest TextId) (k : ℕ) → length (paths t) ≤ k → length (map (λ p. i ∷ p) (paths t)) ≡ length (paths t) → length (paths t) ≡ length (enc_at level t) → AtForest (i + 1) level ts (k - length (paths t)) → AtForest i level (one_more t ts) k
@@ -100,14 +100,14 @@ next i level t ts k g long same r =
     let there : suc r.step - i ≡ suc (suc x) = omega arith in
     let here : suc r.step - (i + 1) ≡ suc x = omega arith in
     let tree : tree_then (nth_tree (one_more t ts) (suc r.step - i)) (subtree r.steps) ≡ tree_then (nth_tree ts (suc r.step - (i + 1))) (subtree r.steps) =
-          ap (λ z. tree_then (nth_tree (one_more t ts) z) (subtree r.steps)) there ∙ ap (λ z. tree_then (nth_tree ts z) (subtree r.steps)) (sym here) in
+    ap (λ z. tree_then (nth_tree (one_more t ts) z) (subtree r.steps)) there ∙ ap (λ z. tree_then (nth_tree ts z) (subtree r.steps)) (sym here) in
     let line : slice_index_or (encs_at level (one_more t ts)) k no_line ≡ slice_index_or (encs_at level ts) m no_line = ap (λ z. slice_index_or (encs_at level (one_more t ts)) z no_line) place2 ∙ at-right (enc_at level t) (encs_at level ts) m no_line in
     record {
       step = r.step;
       steps = r.steps;
       path = ap (λ z. slice_index_or (paths_from i (one_more t ts)) z []) place ∙ at-right (map (λ p. i ∷ p) (paths t)) (paths_from (i + 1) ts) m [] ∙ r.path;
       from = omega arith;
-      child = subst (λ z. HeldChild z (slice_index_or (encs_at level (one_more t ts)) k no_line)) (sym tree) (subst (λ z. HeldChild (tree_then (nth_tree ts (suc r.step - (i + 1))) (subtree r.steps)) z) (sym line) r.child)
+      child = subst (λ z. HeldChild z (slice_index_or (encs_at level (one_more t ts)) k no_line)) (sym tree) (subst (λ z. HeldChild (tree_then (nth_tree ts (suc r.step - (i + 1))) (subtree r.steps)) z) (sym line) r.child);
     }
 
 mutual
@@ -119,8 +119,8 @@ mutual
       let j : ℕ = r.step in
       let one : suc j - 1 ≡ j = omega arith in
       let c : HeldChild (subtree (slice_index_or (paths_from 1 f) k []) (Branch l f)) (slice_index_or (encs_at (level + 1) f) k no_line) =
-            subst (λ z. HeldChild (subtree z (Branch l f)) (slice_index_or (encs_at (level + 1) f) k no_line)) (sym r.path)
-              (subst (λ z. HeldChild (tree_then (nth_tree f z) (subtree r.steps)) (slice_index_or (encs_at (level + 1) f) k no_line)) one r.child) in
+      subst (λ z. HeldChild (subtree z (Branch l f)) (slice_index_or (encs_at (level + 1) f) k no_line)) (sym r.path)
+      (subst (λ z. HeldChild (tree_then (nth_tree f z) (subtree r.steps)) (slice_index_or (encs_at (level + 1) f) k no_line)) one r.child) in
       (c.held, inr c)
 
   of-forest : (i level : ℕ) (f : Forest TextId) → are_sound id_eq is_empty_id f ≡ true → (k : ℕ) → k < length (paths_from i f) → AtForest i level f k
@@ -131,8 +131,8 @@ mutual
       let same : length (paths t) ≡ length (enc_at level t) = long-paths level t in
       let whole : length (paths_from i (one_more t ts)) ≡ length (map (λ p. i ∷ p) (paths t)) + length (paths_from (i + 1) ts) = length-append (map (λ p. i ∷ p) (paths t)) (paths_from (i + 1) ts) in
       elim (cases_lt k (length (paths t))) [
-        inl l ↦ first i level t ts k l long same parts.0 (of-tree level t parts.1 k l)
-      | inr g ↦ next i level t ts k g long same (of-forest (i + 1) level ts parts.2 (k - length (paths t)) (omega (arith, whole, long, h)))
+        | inl l ↦ first i level t ts k l long same parts.0 (of-tree level t parts.1 k l)
+        | inr g ↦ next i level t ts k g long same (of-forest (i + 1) level ts parts.2 (k - length (paths t)) (omega (arith, whole, long, h)))
       ]
 
 -- the tree below row v, whose root is no attribute but where v is 0

@@ -32,9 +32,9 @@ self-is c v = grind (arith, nat_tests)
 
 child-is : (c v s lc lv : ℕ) → (v ≡ c → lv ≡ lc) → ((nat_le (c + 1) v && nat_lt v (c + s + 1)) && (nat_eq lv (lc + 1) && true)) ≡ ((nat_le c v && nat_le v (c + s)) && nat_eq lv (lc + 1))
 child-is c v s lc lv f = elim (cases_order v c) [
-    inl e ↦ (let q = f e in rw (lt-leb (c + 1) v (omega arith), ne_eqb lv (lc + 1) (λ z. omega arith)) (both (nat_le c v && nat_le v (c + s))))
+  | inl e ↦ (let q = f e in rw (lt-leb (c + 1) v (omega arith), ne_eqb lv (lc + 1) (λ z. omega arith)) (both (nat_le c v && nat_le v (c + s))))
   | inr o ↦ grind (arith, nat_tests)
-  ]
+]
   where
     both : (b : Bool) → false ≡ (b && false)
     both true = refl

@@ -51,9 +51,9 @@ zero-node (Branch l f) e h = record { held = h; plain = (let q : Branch l f ≡ 
 
 pub node-at : (t : Tree TextId) (v : ℕ) → is_sound id_eq is_empty_id t ≡ true → is_lone t ≡ false → v < length (enc t) → Node t v
 node-at t v s e l = (let h = held t s v l in elim h.1 [
-    inl z ↦ subst (λ k. Node t k) (sym z) (zero-node t e (subst (λ k. Held (subtree (path_at t k) t) (line_in (enc t) k)) z h.0))
+  | inl z ↦ subst (λ k. Node t k) (sym z) (zero-node t e (subst (λ k. Held (subtree (path_at t k) t) (line_in (enc t) k)) z h.0))
   | inr c ↦ record { held = c.held; plain = child-no_attribute (root_of c.held.sub) c.child }
-  ])
+])
 
 test-is : (axis : Axis) (test : Test TextId) (l : Label TextId) → IsNoAttribute l → (is_node_row (row_kind l) (row_name l) && selects id_eq axis test (kind_of_row (row_kind l)) (row_name l)) ≡ selects id_eq axis test (kind_of l) (name_of l)
 test-is axis test OfDocument p = refl
@@ -75,8 +75,8 @@ pub passes-is : (axis : Axis) (tested : NodeTest) (t : Tree TextId) (v : ℕ) �
 passes-is axis tested t v n =
     let l : Label TextId = root_of n.held.sub in
     ap (λ (z : Line TextId). is_node_row z.kind z.name && selects id_eq axis (test_of tested) (kind_of_row z.kind) z.name) n.held.line_is
-      ∙ test-is axis (test_of tested) l n.plain
-      ∙ ap (λ z. selects_label id_eq axis (test_of tested) (label_in 0 z)) (sym n.held.is)
+    ∙ test-is axis (test_of tested) l n.plain
+    ∙ ap (λ z. selects_label id_eq axis (test_of tested) (label_in 0 z)) (sym n.held.is)
 
 pub is-node : (axis : Axis) (tested : NodeTest) (t : Tree TextId) (v : ℕ) → Node t v → (seen_of axis tested t v).node ≡ true
 is-node axis tested t v n = ap (λ (z : Line TextId). is_node_row z.kind z.name) n.held.line_is ∙ node-is (root_of n.held.sub) n.plain

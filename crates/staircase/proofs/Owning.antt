@@ -57,11 +57,11 @@ record AllGathered (axis : Axis) (tested : NodeTest) (c : Ctx) (first : ℕ) (pa
 all-from : (axis : Axis) (tested : NodeTest) (c : Ctx) (first : ℕ) (pairs : List (TextId × TextId)) (h : Hit) → In h (all_hits axis tested c first pairs) → AllGathered axis tested c first pairs h
 all-from axis tested c first [] h i = absurd i
 all-from axis tested c first (x ∷ pairs) h i = elim (in-parts h (attribute_hit axis tested c first x.0) (all_hits axis tested c (first + 1) pairs) i) [
-    inl y ↦ (let z : first ≡ first + 0 = omega arith in record { place = 0; within = omega arith; gathered = subst (λ k. Gathered axis tested c k (Some x) h) z (hit-from axis tested c first x h y) })
+  | inl y ↦ (let z : first ≡ first + 0 = omega arith in record { place = 0; within = omega arith; gathered = subst (λ k. Gathered axis tested c k (Some x) h) z (hit-from axis tested c first x h y) })
   | inr y ↦ (let r = all-from axis tested c (first + 1) pairs h y in
-             let z : (first + 1) + r.place ≡ first + suc r.place = omega arith in
-             record { place = suc r.place; within = omega (arith, r.within); gathered = subst (λ k. Gathered axis tested c k (nth_pair pairs (suc r.place)) h) z r.gathered })
-  ]
+      let z : (first + 1) + r.place ≡ first + suc r.place = omega arith in
+      record { place = suc r.place; within = omega (arith, r.within); gathered = subst (λ k. Gathered axis tested c k (nth_pair pairs (suc r.place)) h) z r.gathered })
+]
 
 pub to-all : (axis : Axis) (tested : NodeTest) (c : Ctx) (first : ℕ) (pairs : List (TextId × TextId)) (place : ℕ) (x : TextId × TextId) → nth_pair pairs (suc place) ≡ Some x → selects id_eq axis (test_of tested) AttributeNode (Some x.0) ≡ true → In (record { pre = c.pre; attr = first + place; iter = c.iter }) (all_hits axis tested c first pairs)
 to-all axis tested c first [] place x e s = cc
@@ -69,12 +69,12 @@ to-all axis tested c first (y ∷ pairs) zero x e s =
     let q : x ≡ y = cc in
     let z : first + 0 ≡ first = omega arith in
     in-left (record { pre = c.pre; attr = first + 0; iter = c.iter }) (attribute_hit axis tested c first y.0) (all_hits axis tested c (first + 1) pairs)
-      (subst (λ w. In (record { pre = c.pre; attr = first + 0; iter = c.iter }) (attribute_hit axis tested c first w.0)) q
-        (subst (λ k. In (record { pre = c.pre; attr = k; iter = c.iter }) (attribute_hit axis tested c first x.0)) (sym z) (to-hit axis tested c first x s)))
+    (subst (λ w. In (record { pre = c.pre; attr = first + 0; iter = c.iter }) (attribute_hit axis tested c first w.0)) q
+    (subst (λ k. In (record { pre = c.pre; attr = k; iter = c.iter }) (attribute_hit axis tested c first x.0)) (sym z) (to-hit axis tested c first x s)))
 to-all axis tested c first (y ∷ pairs) (suc place) x e s =
     let z : (first + 1) + place ≡ first + suc place = omega arith in
     in-right (record { pre = c.pre; attr = first + suc place; iter = c.iter }) (attribute_hit axis tested c first y.0) (all_hits axis tested c (first + 1) pairs)
-      (subst (λ k. In (record { pre = c.pre; attr = k; iter = c.iter }) (all_hits axis tested c (first + 1) pairs)) z (to-all axis tested c (first + 1) pairs place x e s))
+    (subst (λ k. In (record { pre = c.pre; attr = k; iter = c.iter }) (all_hits axis tested c (first + 1) pairs)) z (to-all axis tested c (first + 1) pairs place x e s))
 
 -- ---- the label of an attribute
 
@@ -90,7 +90,7 @@ plain-attributes (OfInstruction n v) p = refl
 label-is : (t : Tree TextId) (v k : ℕ) → Node t v → label_at t (record { steps = path_at t v; attr = suc k }) ≡ label_of_pair (nth_pair (line_in (enc t) v).attributes (suc k))
 label-is t v k n =
     ap (label_in (suc k)) n.held.is
-      ∙ ap (λ z. label_of_pair (nth_pair z (suc k))) (sym (ap (λ (z : Line TextId). z.attributes) n.held.line_is ∙ plain-attributes (root_of n.held.sub) n.plain))
+    ∙ ap (λ z. label_of_pair (nth_pair z (suc k))) (sym (ap (λ (z : Line TextId). z.attributes) n.held.line_is ∙ plain-attributes (root_of n.held.sub) n.plain))
 
 lone-pair : (t : Tree TextId) → is_lone t ≡ true → label_at t (record { steps = []; attr = 0 }) ≡ label_of_pair (nth_pair (line_in (enc t) 0).attributes 1)
 lone-pair (Branch OfDocument f) e = absurd (false≢true e)
@@ -111,11 +111,11 @@ attribute-label t p b s e z = go (is_lone t) refl
   where
     go : (d : Bool) → is_lone t ≡ d → label_at t (node_at t p) ≡ label_of_pair (nth_pair (line_in (enc t) p.pre).attributes p.attr)
     go true l =
-      let q = lone-parts t p l e in
-      rw (l, q.0, q.1) (lone-pair t l)
+        let q = lone-parts t p l e in
+        rw (l, q.0, q.1) (lone-pair t l)
     go false l =
-      let one : p.attr ≡ suc (p.attr - 1) = omega arith in
-      ap (λ k. label_at t (cond k (record { steps = []; attr = 0 }) (record { steps = path_at t p.pre; attr = p.attr }))) l
+        let one : p.attr ≡ suc (p.attr - 1) = omega arith in
+        ap (λ k. label_at t (cond k (record { steps = []; attr = 0 }) (record { steps = path_at t p.pre; attr = p.attr }))) l
         ∙ ap (λ k. label_at t (record { steps = path_at t p.pre; attr = k })) one
         ∙ label-is t p.pre (p.attr - 1) (node-at t p.pre s l (node-row t p b e))
         ∙ ap (λ k. label_of_pair (nth_pair (line_in (enc t) p.pre).attributes k)) (sym one)
@@ -191,18 +191,18 @@ row-sound tested t cs c h b s nodes i z k =
     go : (d : Bool) → is_lone t ≡ d → (j : ℕ) → j < length (line_in (enc t) c.pre).attributes → Gathered a.Attribute tested c (1 + j) (nth_pair (line_in (enc t) c.pre).attributes (suc j)) h → names_node t (record { pre = c.pre; attr = 0 }) ≡ true → Reached a.Attribute tested t cs (ctx_of h)
     go true l j w g name = absurd (row-not_named t c.pre l name)
     go false l j w g name =
-      let one : 1 + j ≡ suc j = omega arith in
-      let q : Place = record { pre = c.pre; attr = suc j } in
-      let row : c.pre < length (enc t) = node-row t (record { pre = c.pre; attr = 0 }) b name in
-      let named : names_node t q ≡ true = rw (l, lt-ltb c.pre (length (enc t)) row, le-leb (suc j) (length (line_in (enc t) c.pre).attributes) w) refl in
-      let label = attribute-label t q b s named (omega arith) in
-      let from : node_at t (place_of c) ≡ record { steps = path_at t c.pre; attr = 0 } = ap (λ x. cond x (record { steps = []; attr = 0 }) (record { steps = path_at t c.pre; attr = c.attr })) l ∙ ap (λ x. record { steps = path_at t c.pre; attr = x }) z in
-      let to : node_at t q ≡ record { steps = path_at t c.pre; attr = suc j } = ap (λ x. cond x (record { steps = []; attr = 0 }) (record { steps = path_at t c.pre; attr = suc j })) l in
-      let on : on_attribute (record { steps = path_at t c.pre; attr = 0 }) (record { steps = path_at t c.pre; attr = suc j }) ≡ true = rw (ne_eqb (suc j) 0 (λ x. omega arith), prefix-self (path_at t c.pre)) refl in
-      let on2 : on_axis a.Attribute (node_at t (place_of c)) (node_at t q) ≡ true = rw (from, to) on in
-      let steps : steps_to id_eq a.Attribute (test_of tested) t (node_at t (place_of c)) (node_at t q) ≡ true = and_from (on_axis a.Attribute (node_at t (place_of c)) (node_at t q)) (selects_label id_eq a.Attribute (test_of tested) (label_at t (node_at t q))) on2 (ap (selects_label id_eq a.Attribute (test_of tested)) label ∙ passes-label a.Attribute tested (nth_pair (line_in (enc t) c.pre).attributes (suc j)) g.pair g.is_pair g.passes) in
-      let there : Reached a.Attribute tested t cs (record { iter = c.iter; pre = c.pre; attr = suc j }) = record { named = named; reaches = (c, i, refl, steps) } in
-      subst (λ (y : Hit). Reached a.Attribute tested t cs (ctx_of y)) (sym (g.is ∙ ap (λ x. record { pre = c.pre; attr = x; iter = c.iter }) one)) there
+        let one : 1 + j ≡ suc j = omega arith in
+        let q : Place = record { pre = c.pre; attr = suc j } in
+        let row : c.pre < length (enc t) = node-row t (record { pre = c.pre; attr = 0 }) b name in
+        let named : names_node t q ≡ true = rw (l, lt-ltb c.pre (length (enc t)) row, le-leb (suc j) (length (line_in (enc t) c.pre).attributes) w) refl in
+        let label = attribute-label t q b s named (omega arith) in
+        let from : node_at t (place_of c) ≡ record { steps = path_at t c.pre; attr = 0 } = ap (λ x. cond x (record { steps = []; attr = 0 }) (record { steps = path_at t c.pre; attr = c.attr })) l ∙ ap (λ x. record { steps = path_at t c.pre; attr = x }) z in
+        let to : node_at t q ≡ record { steps = path_at t c.pre; attr = suc j } = ap (λ x. cond x (record { steps = []; attr = 0 }) (record { steps = path_at t c.pre; attr = suc j })) l in
+        let on : on_attribute (record { steps = path_at t c.pre; attr = 0 }) (record { steps = path_at t c.pre; attr = suc j }) ≡ true = rw (ne_eqb (suc j) 0 (λ x. omega arith), prefix-self (path_at t c.pre)) refl in
+        let on2 : on_axis a.Attribute (node_at t (place_of c)) (node_at t q) ≡ true = rw (from, to) on in
+        let steps : steps_to id_eq a.Attribute (test_of tested) t (node_at t (place_of c)) (node_at t q) ≡ true = and_from (on_axis a.Attribute (node_at t (place_of c)) (node_at t q)) (selects_label id_eq a.Attribute (test_of tested) (label_at t (node_at t q))) on2 (ap (selects_label id_eq a.Attribute (test_of tested)) label ∙ passes-label a.Attribute tested (nth_pair (line_in (enc t) c.pre).attributes (suc j)) g.pair g.is_pair g.passes) in
+        let there : Reached a.Attribute tested t cs (record { iter = c.iter; pre = c.pre; attr = suc j }) = record { named = named; reaches = (c, i, refl, steps) } in
+        subst (λ (y : Hit). Reached a.Attribute tested t cs (ctx_of y)) (sym (g.is ∙ ap (λ x. record { pre = c.pre; attr = x; iter = c.iter }) one)) there
 
 part-sound : (axis : Axis) (tested : NodeTest) (t : Tree TextId) (seen : List Seen) (cs : List Ctx) (c : Ctx) (h : Hit) → RowsTell t → is_sound id_eq is_empty_id t ≡ true → AreNodes t cs → In c cs → In h (attribute_part axis tested t seen c) → Reached axis tested t cs (ctx_of h)
 part-sound axis tested t seen cs c h b s nodes i k = go (nat_eq c.attr 0) refl (is_attribute_axis axis) refl (holds_self axis) refl k
@@ -214,6 +214,7 @@ part-sound axis tested t seen cs c h b s nodes i k = go (nat_eq c.attr 0) refl (
         at : (d : Bool) → In h (cond d (all_hits axis tested c 1 (line_in (enc t) c.pre).attributes) []) → Reached axis tested t cs (ctx_of h)
         at true k = subst (λ x. Reached x tested t cs (ctx_of h)) (sym e) (row-sound tested t cs c h b s nodes i (eqb-true c.attr 0 z) (subst (λ x. In h (all_hits x tested c 1 (line_in (enc t) c.pre).attributes)) e k))
         at false k = absurd k
+
     go : (z : Bool) → nat_eq c.attr 0 ≡ z → (d : Bool) → is_attribute_axis axis ≡ d → (f : Bool) → holds_self axis ≡ f → In h (cond z (cond d (row_hits axis tested t c (row_found seen c.pre)) []) (cond f (own_hit axis tested c (nth_pair (line_in (enc t) c.pre).attributes c.attr)) [])) → Reached axis tested t cs (ctx_of h)
     go true z true d f g k = row (is-attribute axis d) z (row_found seen c.pre) k
     go true z false d f g k = absurd k
@@ -223,16 +224,16 @@ part-sound axis tested t seen cs c h b s nodes i k = go (nat_eq c.attr 0) refl (
 parts-in : (axis : Axis) (tested : NodeTest) (t : Tree TextId) (seen : List Seen) (cs : List Ctx) (h : Hit) → In h (attribute_parts axis tested t seen cs) → (c : Ctx) × In c cs × In h (attribute_part axis tested t seen c)
 parts-in axis tested t seen [] h k = absurd k
 parts-in axis tested t seen (c ∷ cs) h k = elim (in-parts h (attribute_part axis tested t seen c) (attribute_parts axis tested t seen cs) k) [
-    inl x ↦ (c, inl refl, x)
+  | inl x ↦ (c, inl refl, x)
   | inr y ↦ (let r = parts-in axis tested t seen cs h y in (r.0, inr r.1, r.2))
-  ]
+]
 
 pub in-attribute_parts : (axis : Axis) (tested : NodeTest) (t : Tree TextId) (seen : List Seen) (cs : List Ctx) (c : Ctx) (h : Hit) → In c cs → In h (attribute_part axis tested t seen c) → In h (attribute_parts axis tested t seen cs)
 in-attribute_parts axis tested t seen [] c h i k = absurd i
 in-attribute_parts axis tested t seen (d ∷ cs) c h i k = elim i [
-    inl e ↦ in-left h (attribute_part axis tested t seen d) (attribute_parts axis tested t seen cs) (subst (λ (z : Ctx). In h (attribute_part axis tested t seen z)) e k)
+  | inl e ↦ in-left h (attribute_part axis tested t seen d) (attribute_parts axis tested t seen cs) (subst (λ (z : Ctx). In h (attribute_part axis tested t seen z)) e k)
   | inr r ↦ in-right h (attribute_part axis tested t seen d) (attribute_parts axis tested t seen cs) (in-attribute_parts axis tested t seen cs c h r k)
-  ]
+]
 
 pub attributes-sound : (axis : Axis) (tested : NodeTest) (t : Tree TextId) (seen : List Seen) (cs : List Ctx) (h : Hit) → RowsTell t → is_sound id_eq is_empty_id t ≡ true → AreNodes t cs → In h (attribute_parts axis tested t seen cs) → Reached axis tested t cs (ctx_of h)
 attributes-sound axis tested t seen cs h b s nodes k = (let r = parts-in axis tested t seen cs h k in part-sound axis tested t seen cs r.0 h b s nodes r.1 r.2)

@@ -19,9 +19,9 @@ in-at (x ∷ xs) (suc k) d l = inr (in-at xs k d (omega arith))
 pub place-in : {X : Type 0} (x : X) (xs : List X) → In x xs → (k : ℕ) × (k < length xs) × (slice_index_or xs k x ≡ x)
 place-in x [] h = absurd h
 place-in x (y ∷ ys) h = elim h [
-    inl e ↦ (0, omega arith, sym e)
+  | inl e ↦ (0, omega arith, sym e)
   | inr r ↦ (let k = place-in x ys r in (suc k.0, omega (arith, k.1), k.2))
-  ]
+]
 
 -- a row in the middle that is before row `pre`
 pub split-up : (seen : List Seen) (pre low high mid : ℕ) (d : Seen) → IsRising seen → Splits seen pre low high → mid < length seen → (slice_index_or seen mid d).pre < pre → Splits seen pre (mid + 1) high
@@ -45,10 +45,13 @@ between-places seen first end from to r o l a b = record { within = within; all 
   where
     part : List Seen
     part = take (to - from) (drop from seen)
+
     long : length part ≡ to - from
     long = length-take-le (to - from) (drop from seen) (omega (arith, length-drop from seen))
+
     at-part : (k : ℕ) (d : Seen) → k < to - from → slice_index_or part k d ≡ slice_index_or seen (from + k) d
     at-part k d h = get_or-take (to - from) (drop from seen) k d h ∙ get_or-drop from seen k d
+
     within : (s : Seen) → In s part → In s seen × (first ≤ s.pre) × (s.pre < end)
     within s h =
         let p = place-in s part h in
@@ -58,6 +61,7 @@ between-places seen first end from to r o l a b = record { within = within; all 
         let lo = a.above (from + p.0) s (omega arith) (omega arith) in
         let hi = b.below (from + p.0) s (omega arith) in
         (subst (λ (z : Seen). In z seen) same (in-at seen (from + p.0) s (omega arith)), omega arith, omega arith)
+
     all : (s : Seen) → In s seen → first ≤ s.pre → s.pre < end → In s part
     all s h f e =
         let p = place-in s seen h in
@@ -72,6 +76,7 @@ between-places seen first end from to r o l a b = record { within = within; all 
         low : (k : ℕ) → k < length seen → slice_index_or seen k s ≡ s → (k < from) ⊎ (from ≤ k) → from ≤ k
         low k l q (inl x) = (let y = a.below k s x in let z : (slice_index_or seen k s).pre ≡ s.pre = ap (λ (z : Seen). z.pre) q in absurd (omega arith))
         low k l q (inr x) = x
+
         high : (k : ℕ) → k < length seen → slice_index_or seen k s ≡ s → (k < to) ⊎ (to ≤ k) → k < to
         high k l q (inl x) = x
         high k l q (inr x) = (let y = b.above k s x l in let z : (slice_index_or seen k s).pre ≡ s.pre = ap (λ (z : Seen). z.pre) q in absurd (omega arith))

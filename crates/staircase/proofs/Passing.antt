@@ -33,9 +33,9 @@ down-first lines rows rest reach from total e h t None f = λ v l k.
 down-first lines rows rest reach from total e h t (Some at) f =
     let k = comes-first rows rest from at (length lines) h.comes (sym f) in
     let clear : (v : ℕ) → from ≤ v → v < at → (has v rows || any (λ c. below lines c v) rows) ≡ false = λ v l m.
-          let past : nat_lt v reach ≡ false = le-ltb v reach (omega arith) in
-          let two : any (λ c. below lines c v) rows ≡ false = h.reached v l ∙ rw (past, none-below lines at (length lines) rest (up-at at (length lines) rest from h.comes.up (sym f)) v m) refl in
-          rw (k.none v l m, two) refl in
+    let past : nat_lt v reach ≡ false = le-ltb v reach (omega arith) in
+    let two : any (λ c. below lines c v) rows ≡ false = h.reached v l ∙ rw (past, none-below lines at (length lines) rest (up-at at (length lines) rest from h.comes.up (sym f)) v m) refl in
+    rw (k.none v l m, two) refl in
     (k.later, omega (arith, k.within), or_left (has at rows) (any (λ c. below lines c at) rows) k.there, record { comes = k.comes; within = h.within; reached = λ w l. h.reached w (omega (arith, k.later)) }, clear)
 
 reach-more : (at w s reach last : ℕ) (more : Bool) → last ≡ at + s → at < w → (nat_lt w reach || ((nat_lt at w && nat_le w (at + s)) || more)) ≡ (nat_lt w (max reach (last + 1)) || more)
@@ -57,9 +57,9 @@ down-enter lines rows (x ∷ xs) reach at last h ends e f =
       comes = comes-past rows (x ∷ xs) at (length lines) h.comes;
       within = omega (arith, h.within);
       reached = λ w l. h.reached w (omega arith)
-        ∙ ap (λ z. nat_lt w reach || (below lines z w || any (λ c. below lines c w) xs)) q
-        ∙ reach-more at w (line_in lines at).size reach last (any (λ c. below lines c w) xs) e (omega arith)
-        ∙ ap (λ z. nat_lt w (max reach (last + 1)) || any (λ c. below lines c w) z) (sym gone)
+          ∙ ap (λ z. nat_lt w reach || (below lines z w || any (λ c. below lines c w) xs)) q
+          ∙ reach-more at w (line_in lines at).size reach last (any (λ c. below lines c w) xs) e (omega arith)
+          ∙ ap (λ z. nat_lt w (max reach (last + 1)) || any (λ c. below lines c w) z) (sym gone);
     }
 
 pub down-beside : (lines : List (Line TextId)) (rows rest : List ℕ) (reach at : ℕ) → Reached lines rows rest reach at → is_first at rest ≡ false → Reached lines rows (without at rest) reach (at + 1)
@@ -69,7 +69,7 @@ down-beside lines rows (x ∷ xs) reach at h f =
     record {
       comes = comes-past rows (x ∷ xs) at (length lines) h.comes;
       within = h.within;
-      reached = λ w l. h.reached w (omega arith) ∙ ap (λ z. nat_lt w reach || any (λ c. below lines c w) z) (sym kept)
+      reached = λ w l. h.reached w (omega arith) ∙ ap (λ z. nat_lt w reach || any (λ c. below lines c w) z) (sym kept);
     }
 
 pub reached-as : (lines : List (Line TextId)) (rows rows2 rest rest2 : List ℕ) (reach reach2 from : ℕ) → rows2 ≡ rows → rest2 ≡ rest → reach2 ≡ reach → Reached lines rows rest reach from → Reached lines rows2 rest2 reach2 from
@@ -103,11 +103,11 @@ owners-up rows rest owners owners_rest from at n o own l none = comes-later owne
 -- where no row below `at` is wanted, the state holds there
 follows-later : (lines : List (Line TextId)) (rows rest owners owners_rest : List ℕ) (beyond from at : ℕ) → Follows lines rows rest owners owners_rest beyond from → from ≤ at → ((w : ℕ) → from ≤ w → w < at → has w rows ≡ false) → Follows lines rows rest owners owners_rest beyond at
 follows-later lines rows rest owners owners_rest beyond from at h l none = record {
-    comes = comes-later rows rest from at (length lines) h.comes l none;
-    owning = owners-up rows rest owners owners_rest from at (length lines) h.owning h.own l none;
-    own = h.own;
-    beyond_rows = λ w k m. h.beyond_rows w (omega arith) m
-  }
+  comes = comes-later rows rest from at (length lines) h.comes l none;
+  owning = owners-up rows rest owners owners_rest from at (length lines) h.owning h.own l none;
+  own = h.own;
+  beyond_rows = λ w k m. h.beyond_rows w (omega arith) m;
+}
 
 -- before the first row still to come, and before `beyond`, no row is wanted
 clear-before : (lines : List (Line TextId)) (rows rest owners owners_rest : List ℕ) (beyond from at : ℕ) → Follows lines rows rest owners owners_rest beyond from → from ≤ at → ((w : ℕ) → from ≤ w → w < at → has w rows ≡ false) → UpFrom at (length lines) rest → (v : ℕ) → from ≤ v → v < at → v < beyond → v < length lines → Wanted lines rows owners v ≡ false
@@ -120,20 +120,23 @@ pub after-next : (lines : List (Line TextId)) (rows rest owners owners_rest : Li
     → (at < total → NextIs (Wanted lines rows owners) (λ at. Follows lines rows rest owners owners_rest beyond at) from total (Some at)) × (total ≤ at → NextIs (Wanted lines rows owners) (λ at. Follows lines rows rest owners owners_rest beyond at) from total None)
 after-next lines rows [] owners owners_rest beyond from total e h at f =
     let none : (w : ℕ) → from ≤ w → has w rows ≡ false = λ w k. h.comes.same w k in
-    let clear : (v : ℕ) → from ≤ v → v < at → v < length lines → Wanted lines rows owners v ≡ false = λ v k m n. clear-before lines rows [] owners owners_rest beyond from at h (omega arith) (λ w a b. none w a) tt v k m (omega arith) n in
-    (λ l. (omega arith, l, or_right (has at rows) (any (λ c. follows lines c at) rows || any (λ c. nat_lt c at) owners) (h.beyond_rows at (omega arith) (omega arith) ∙ rw (le-leb beyond at (omega arith)) refl), follows-later lines rows [] owners owners_rest beyond from at h (omega arith) (λ w a b. none w a), λ v k m. clear v k m (omega arith)),
-     λ l v k m. clear v k (omega arith) (omega arith))
+    let clear : (v : ℕ) → from ≤ v → v < at → v < length lines → Wanted lines rows owners v ≡ false = λ v k m n. clear-before lines rows [] owners owners_rest beyond from at h (omega arith) (λ w a b. none w a) tt v k m (omega arith) n in (
+      λ l. (omega arith, l, or_right (has at rows) (any (λ c. follows lines c at) rows || any (λ c. nat_lt c at) owners) (h.beyond_rows at (omega arith) (omega arith) ∙ rw (le-leb beyond at (omega arith)) refl), follows-later lines rows [] owners owners_rest beyond from at h (omega arith) (λ w a b. none w a), λ v k m. clear v k m (omega arith)),
+      λ l v k m. clear v k (omega arith) (omega arith),
+    )
 after-next lines rows (x ∷ xs) owners owners_rest beyond from total e h at f =
     let k = comes-first rows (x ∷ xs) from x (length lines) h.comes refl in
     let none : (w : ℕ) → from ≤ w → w < at → has w rows ≡ false = λ w a b. k.none w a (omega arith) in
     let up : UpFrom at (length lines) (x ∷ xs) = (omega arith, h.comes.up.1, h.comes.up.2) in
-    let clear : (v : ℕ) → from ≤ v → v < at → v < length lines → Wanted lines rows owners v ≡ false = λ v a b n. clear-before lines rows (x ∷ xs) owners owners_rest beyond from at h (omega (arith, h.comes.up.0)) none up v a b (pick v a b (cases_lt beyond from)) n in
-    (λ l. (omega (arith, h.comes.up.0), l, wanted (omega arith) (cases_lt at x), follows-later lines rows (x ∷ xs) owners owners_rest beyond from at h (omega (arith, h.comes.up.0)) none, λ v a b. clear v a b (omega arith)),
-     λ l v a b. clear v a (omega arith) (omega arith))
+    let clear : (v : ℕ) → from ≤ v → v < at → v < length lines → Wanted lines rows owners v ≡ false = λ v a b n. clear-before lines rows (x ∷ xs) owners owners_rest beyond from at h (omega (arith, h.comes.up.0)) none up v a b (pick v a b (cases_lt beyond from)) n in (
+      λ l. (omega (arith, h.comes.up.0), l, wanted (omega arith) (cases_lt at x), follows-later lines rows (x ∷ xs) owners owners_rest beyond from at h (omega (arith, h.comes.up.0)) none, λ v a b. clear v a b (omega arith)),
+      λ l v a b. clear v a (omega arith) (omega arith),
+    )
   where
     pick : (v : ℕ) → from ≤ v → v < at → (beyond < from) ⊎ (from ≤ beyond) → v < beyond
     pick v a b (inl q) = absurd (omega (arith, h.comes.up.0))
     pick v a b (inr q) = omega arith
+
     wanted : at < length lines → (at < x) ⊎ (x ≤ at) → Wanted lines rows owners at ≡ true
     wanted n (inl q) = or_right (has at rows) (any (λ c. follows lines c at) rows || any (λ c. nat_lt c at) owners) (h.beyond_rows at (omega (arith, h.comes.up.0)) n ∙ rw (le-leb beyond at (omega arith)) refl)
     wanted n (inr q) =
@@ -161,6 +164,7 @@ nearer-rows beyond at last w true false a b l = go (cases_lt last w) (cases_lt w
     true-last : (x : Bool) → (x || true) ≡ true
     true-last true = refl
     true-last false = refl
+
     go : (last < w) ⊎ (w ≤ last) → (w < beyond) ⊎ (beyond ≤ w) → (nat_le beyond w || ((nat_lt last w || a) || b)) ≡ (nat_le (min beyond (last + 1)) w || (a || b))
     go (inl x) y = rw (lt-ltb last w x, le-leb (min beyond (last + 1)) w (omega arith)) (true-last (nat_le beyond w))
     go (inr x) (inl y) = rw (le-ltb last w x, lt-leb beyond w y, lt-leb (min beyond (last + 1)) w (omega arith)) refl
@@ -169,15 +173,15 @@ nearer-rows beyond at last w true false a b l = go (cases_lt last w) (cases_lt w
 pub after-enter : (lines : List (Line TextId)) (rows rest owners owners_rest : List ℕ) (beyond at last : ℕ) → Follows lines rows rest owners owners_rest beyond at → last ≡ at + (line_in lines at).size
     → Follows lines rows (without at rest) owners (without at owners_rest) (nearer beyond (is_first at rest) (is_first at owners_rest) at last) (at + 1)
 after-enter lines rows rest owners owners_rest beyond at last h e = record {
-    comes = comes-past rows rest at (length lines) h.comes;
-    owning = comes-past owners owners_rest at (length lines) h.owning;
-    own = h.own;
-    beyond_rows = λ w l n. h.beyond_rows w (omega arith) n
+  comes = comes-past rows rest at (length lines) h.comes;
+  owning = comes-past owners owners_rest at (length lines) h.owning;
+  own = h.own;
+  beyond_rows = λ w l n. h.beyond_rows w (omega arith) n
       ∙ ap (λ z. nat_le beyond w || (z || any (λ c. nat_lt c w) owners_rest)) (any-without (λ c. follows lines c w) at rest)
       ∙ ap (λ z. nat_le beyond w || (((is_first at rest && follows lines at w) || any (λ c. follows lines c w) (without at rest)) || z)) (any-without (λ c. nat_lt c w) at owners_rest)
       ∙ ap (λ z. nat_le beyond w || (((is_first at rest && nat_lt z w) || any (λ c. follows lines c w) (without at rest)) || ((is_first at owners_rest && nat_lt at w) || any (λ c. nat_lt c w) (without at owners_rest)))) (sym e)
-      ∙ nearer-rows beyond at last w (is_first at rest) (is_first at owners_rest) (any (λ c. follows lines c w) (without at rest)) (any (λ c. nat_lt c w) (without at owners_rest)) (omega arith)
-  }
+      ∙ nearer-rows beyond at last w (is_first at rest) (is_first at owners_rest) (any (λ c. follows lines c w) (without at rest)) (any (λ c. nat_lt c w) (without at owners_rest)) (omega arith);
+}
 
 pub follows-as : (lines : List (Line TextId)) (rows rows2 rest rest2 owners owners2 owners_rest owners_rest2 : List ℕ) (beyond beyond2 from : ℕ) → rows2 ≡ rows → rest2 ≡ rest → owners2 ≡ owners → owners_rest2 ≡ owners_rest → beyond2 ≡ beyond → Follows lines rows rest owners owners_rest beyond from → Follows lines rows2 rest2 owners2 owners_rest2 beyond2 from
 follows-as lines rows rows2 rest rest2 owners owners2 owners_rest owners_rest2 beyond beyond2 from a b c d e h =

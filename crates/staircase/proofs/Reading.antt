@@ -85,7 +85,7 @@ read-more t frag site axis test first wants wants2 knows knows1 knows2 from seen
       within = omega (arith, n.1);
       rows = s ∙ ap (λ z. z ++ one ∷ []) w.rows ∙ ap (λ z. map (seen_of axis test t) (picked first from) ++ z ∷ []) one_is ∙ seen-more axis test t (picked first from) at ∙ ap (map (seen_of axis test t)) (sym more);
       notes = subst (λ z. AppendsAll old.notes new2.notes (notes_of site frag z)) (sym more) (noted old.notes new.notes new2.notes site frag (picked first from) at w.notes notes);
-      refuses = refuses ∙ w.refuses
+      refuses = refuses ∙ w.refuses;
     }
 
 -- the notes after one more row, where no more are read
@@ -97,7 +97,7 @@ pub read-part : (t : Tree TextId) (frag : FragKey) (site : ℕ) (axis : Axis) (t
 read-part t frag site axis test first wants knows knows1 from seen old new new2 at w n notes =
     let more : picked first (at + 1) ≡ picked first from ++ at ∷ [] = found first wants knows1 from (length (enc t)) at w.same n in
     partly first (at + 1) (length (enc t)) old.notes new2.notes site frag (omega (arith, n.1))
-      (subst (λ z. AppendsAll old.notes new2.notes (notes_of site frag z)) (sym more) (noted old.notes new.notes new2.notes site frag (picked first from) at w.notes notes))
+    (subst (λ z. AppendsAll old.notes new2.notes (notes_of site frag z)) (sym more) (noted old.notes new.notes new2.notes site frag (picked first from) at w.notes notes))
 
 -- what is known once a row was entered
 pub entered : (t : Tree TextId) (axis : Axis) (test : NodeTest) (at : ℕ) (row : Row) (one : Seen) → one ≡ seen_from axis test at row → row ≡ row_of (line_in (enc t) at)

@@ -32,16 +32,16 @@ use Rattle.staircase.proofs.Some.{place-in_some, below-some}
 in-made : (axis : Axis) (counting : Bool) (seen : List Seen) (cs : List Ctx) (task : Task) → In task (made axis counting seen cs) → (c : Ctx) × In c cs × In task (made_one axis counting seen c)
 in-made axis counting seen [] task h = absurd h
 in-made axis counting seen (c ∷ cs) task h = elim (in-parts task (made_one axis counting seen c) (made axis counting seen cs) h) [
-    inl x ↦ (c, inl refl, x)
+  | inl x ↦ (c, inl refl, x)
   | inr y ↦ (let r = in-made axis counting seen cs task y in (r.0, inr r.1, r.2))
-  ]
+]
 
 made-in : (axis : Axis) (counting : Bool) (seen : List Seen) (cs : List Ctx) (c : Ctx) (task : Task) → In c cs → In task (made_one axis counting seen c) → In task (made axis counting seen cs)
 made-in axis counting seen [] c task h k = absurd h
 made-in axis counting seen (d ∷ cs) c task h k = elim h [
-    inl e ↦ in-left task (made_one axis counting seen d) (made axis counting seen cs) (subst (λ (z : Ctx). In task (made_one axis counting seen z)) e k)
+  | inl e ↦ in-left task (made_one axis counting seen d) (made axis counting seen cs) (subst (λ (z : Ctx). In task (made_one axis counting seen z)) e k)
   | inr r ↦ in-right task (made_one axis counting seen d) (made axis counting seen cs) (made-in axis counting seen cs c task r k)
-  ]
+]
 
 listed-is : (task : Task) (o : Option Task) → In task (listed o) → o ≡ Some task
 listed-is task None h = absurd h
@@ -135,12 +135,12 @@ touch-axis a.Descendant t cs c v b s i l m e =
     let z : nat_eq c.attr 0 ≡ true = first-of (nat_eq c.attr 0) _ (first-of (nat_eq c.attr 0 && true) _ (first-of ((nat_eq c.attr 0 && true) && is_prefix (path_at t c.pre) (path_at t v)) _ e)) in
     or_right (is_context a.Descendant (places cs) v) _ (some-row_of a.Descendant t cs c.pre (λ p. on_descendant (row_path t p) (row_path t v)) l (context-row a.Descendant cs c i (or_left (nat_eq c.attr 0) false z)) (subst (λ k. on_descendant (path_with t c.pre k) (row_path t v) ≡ true) (zero-attr c.attr z) e))
 touch-axis a.DescendantOrSelf t cs c v b s i l m e = elim (or_cases (on_descendant (path_with t c.pre c.attr) (row_path t v)) (on_self (path_with t c.pre c.attr) (row_path t v)) e) [
-    inl d ↦ (let z : nat_eq c.attr 0 ≡ true = first-of (nat_eq c.attr 0) _ (first-of (nat_eq c.attr 0 && true) _ (first-of ((nat_eq c.attr 0 && true) && is_prefix (path_at t c.pre) (path_at t v)) _ d)) in
+  | inl d ↦ (let z : nat_eq c.attr 0 ≡ true = first-of (nat_eq c.attr 0) _ (first-of (nat_eq c.attr 0 && true) _ (first-of ((nat_eq c.attr 0 && true) && is_prefix (path_at t c.pre) (path_at t v)) _ d)) in
       or_right (is_context a.DescendantOrSelf (places cs) v) _ (some-row_of a.DescendantOrSelf t cs c.pre (λ p. on_descendant (row_path t p) (row_path t v)) l (context-row a.DescendantOrSelf cs c i (or_left (nat_eq c.attr 0) false z)) (subst (λ k. on_descendant (path_with t c.pre k) (row_path t v) ≡ true) (zero-attr c.attr z) d)))
   | inr f ↦ (let p = and_parts (is_same (path_at t c.pre) (path_at t v)) (nat_eq c.attr 0) f in
       let q : c.pre ≡ v = eqb-true c.pre v (sym (same t c.pre v b l m) ∙ p.0) in
       or_left (is_context a.DescendantOrSelf (places cs) v) _ (subst (λ z. is_context a.DescendantOrSelf (places cs) z ≡ true) q (context-row a.DescendantOrSelf cs c i (or_left (nat_eq c.attr 0) false p.1))))
-  ]
+]
 touch-axis a.Following t cs c v b s i l m e = or_right (is_context a.Following (places cs) v) _ (place-in_some (λ p. on_following (place_path t p) (row_path t v)) c cs i e)
 touch-axis a.Preceding t cs c v b s i l m e = some-row_of a.Preceding t cs c.pre (λ p. nat_le v p) l (context-row a.Preceding cs c i (or_right (nat_eq c.attr 0) true refl)) (le-leb v c.pre (omega (arith, less c.attr e)))
   where
@@ -176,21 +176,25 @@ stands-from axis tested t cs counting wants h task b s n rows i f =
   where
     seen : List Seen
     seen = board axis tested t wants (length (enc t))
+
     go : (c : Ctx) → In c cs → In task (made_one axis counting seen c) → (o : Option Seen) → row_found seen c.pre ≡ o → (v : ℕ) × (v < length (enc t)) × (wants v ≡ true) × (f.0 ≡ seen_of axis tested t v) → Stands axis tested t cs counting h
     go c k j None e r = absurd (subst (λ z. In task (task_at axis counting c z)) e j)
     go c k j (Some own) e r =
-      let v : ℕ = r.0 in
-      let own_is : own ≡ seen_of axis tested t c.pre = found-board axis tested t wants (length (enc t)) c.pre own e in
-      let some : task_for axis (iter_for counting c) c.attr own ≡ Some task = listed-is task (task_for axis (iter_for counting c) c.attr own) (subst (λ z. In task (task_at axis counting c z)) e j) in
-      let some2 : task_for axis (iter_for counting c) c.attr (seen_of axis tested t c.pre) ≡ Some task = ap (λ z. task_for axis (iter_for counting c) c.attr z) (sym own_is) ∙ some in
-      let on : on_axis axis (path_with t c.pre c.attr) (row_path t v) ≡ true =
-            sym (looks-is axis tested t (iter_for counting c) c.pre c.attr v b s n (rows c k) r.1) ∙ ap (λ z. looks z (seen_of axis tested t v)) some2 ∙ ap (in_task task) (sym r.3) ∙ f.3 in
-      record {
-        ctx = c; there = k; row = v; within = r.1;
-        lets_in = ap (lets counting) (sym r.3) ∙ f.2;
-        on = on;
-        is = f.4 ∙ ap (λ (z : Seen). hit_in task.iter z) r.3 ∙ ap (λ z. record { pre = v; attr = 0; iter = z }) (task-iter axis (iter_for counting c) c.attr own task some)
-      }
+        let v : ℕ = r.0 in
+        let own_is : own ≡ seen_of axis tested t c.pre = found-board axis tested t wants (length (enc t)) c.pre own e in
+        let some : task_for axis (iter_for counting c) c.attr own ≡ Some task = listed-is task (task_for axis (iter_for counting c) c.attr own) (subst (λ z. In task (task_at axis counting c z)) e j) in
+        let some2 : task_for axis (iter_for counting c) c.attr (seen_of axis tested t c.pre) ≡ Some task = ap (λ z. task_for axis (iter_for counting c) c.attr z) (sym own_is) ∙ some in
+        let on : on_axis axis (path_with t c.pre c.attr) (row_path t v) ≡ true =
+        sym (looks-is axis tested t (iter_for counting c) c.pre c.attr v b s n (rows c k) r.1) ∙ ap (λ z. looks z (seen_of axis tested t v)) some2 ∙ ap (in_task task) (sym r.3) ∙ f.3 in
+        record {
+          ctx = c;
+          there = k;
+          row = v;
+          within = r.1;
+          lets_in = ap (lets counting) (sym r.3) ∙ f.2;
+          on = on;
+          is = f.4 ∙ ap (λ (z : Seen). hit_in task.iter z) r.3 ∙ ap (λ z. record { pre = v; attr = 0; iter = z }) (task-iter axis (iter_for counting c) c.attr own task some);
+        }
 
 pub record Found (axis : Axis) (counting : Bool) (seen : List Seen) (cs : List Ctx) (h : Hit) : Type 0 where
   pub task : Task
@@ -214,5 +218,5 @@ stands-to axis tested t cs counting wants h b s n rows w x =
     record {
       task = task;
       made_in = made-in axis counting seen cs c task x.there (subst (λ z. In task z) (sym one) (inl refl));
-      finds = (seen_of axis tested t v, board-in axis tested t wants (length (enc t)) v x.within wv, x.lets_in, look.2, x.is ∙ ap (λ z. record { pre = v; attr = 0; iter = z }) (sym (task-iter axis (iter_for counting c) c.attr (seen_of axis tested t c.pre) task look.1)))
+      finds = (seen_of axis tested t v, board-in axis tested t wants (length (enc t)) v x.within wv, x.lets_in, look.2, x.is ∙ ap (λ z. record { pre = v; attr = 0; iter = z }) (sym (task-iter axis (iter_for counting c) c.attr (seen_of axis tested t c.pre) task look.1)));
     }

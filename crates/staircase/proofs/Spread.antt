@@ -30,12 +30,12 @@ same-is h k e =
 all-out : (last : Option Hit) (hs : List Hit) (h : Hit) → In h hs → (last ≡ Some h) ⊎ In (ctx_of h) (spread last hs)
 all-out last [] h k = absurd k
 all-out last (x ∷ hs) h k = elim k [
-    inl e ↦ here last (is_last last x) refl e
+  | inl e ↦ here last (is_last last x) refl e
   | inr r ↦ elim (all-out (Some x) hs h r) [
-        inl e ↦ (let q : h ≡ x = cc in here last (is_last last x) refl q)
-      | inr o ↦ inr (in-right (ctx_of h) (cond (is_last last x) [] (ctx_of x ∷ [])) (spread (Some x) hs) o)
-      ]
+    | inl e ↦ (let q : h ≡ x = cc in here last (is_last last x) refl q)
+    | inr o ↦ inr (in-right (ctx_of h) (cond (is_last last x) [] (ctx_of x ∷ [])) (spread (Some x) hs) o)
   ]
+]
   where
     here : (last : Option Hit) (b : Bool) → is_last last x ≡ b → h ≡ x → (last ≡ Some h) ⊎ In (ctx_of h) (cond b [] (ctx_of x ∷ []) ++ spread (Some x) hs)
     here last false t e = inr (inl (ap ctx_of e))
@@ -101,30 +101,30 @@ rises (x ∷ hs) f = rises-from x hs f
 
 pub spread-appends : (hits sorted : List Hit) (old new : List Ctx) → IsPermutation hits sorted → Rises sorted → new ≡ old ++ spread None sorted → AppendsHits hits old new
 spread-appends hits sorted old new p u e = record {
-    more = spread None sorted;
-    appended = e;
-    ascending = ascends sorted u;
-    sound = λ c k. (let r = from-hits None sorted c (contains-in c (spread None sorted) k) in (r.0, Contains-permutation sorted hits r.0 (IsPermutation-sym hits sorted p) (in-contains r.0 sorted r.1), r.2));
-    complete = λ h k. in-contains (ctx_of h) (spread None sorted) (elim (all-out None sorted h (contains-in h sorted (Contains-permutation hits sorted h p k))) [ inl e ↦ absurd (cc) | inr r ↦ r ])
-  }
+  more = spread None sorted;
+  appended = e;
+  ascending = ascends sorted u;
+  sound = λ c k. (let r = from-hits None sorted c (contains-in c (spread None sorted) k) in (r.0, Contains-permutation sorted hits r.0 (IsPermutation-sym hits sorted p) (in-contains r.0 sorted r.1), r.2));
+  complete = λ h k. in-contains (ctx_of h) (spread None sorted) (elim (all-out None sorted h (contains-in h sorted (Contains-permutation hits sorted h p k))) [ inl e ↦ absurd (cc) | inr r ↦ r ]);
+}
 
 lt-is : (a b : ℕ) → is_lt (nat_cmp a b) ≡ nat_lt a b
 lt-is a b = elim (cases_order a b) [
-    inl e ↦ rw (sym (nat_cmp_is a b Equal e), le-ltb a b (omega arith)) refl
+  | inl e ↦ rw (sym (nat_cmp_is a b Equal e), le-ltb a b (omega arith)) refl
   | inr o ↦ elim o [
-      inl l ↦ rw (sym (nat_cmp_is a b Less l), lt-ltb a b l) refl
+    | inl l ↦ rw (sym (nat_cmp_is a b Less l), lt-ltb a b l) refl
     | inr g ↦ rw (sym (nat_cmp_is a b Greater g), le-ltb a b (omega arith)) refl
-    ]
   ]
+]
 
 then-is : (a b : ℕ) (o : Ordering) (r : Bool) → is_lt o ≡ r → is_lt (ordering_then (nat_cmp a b) o) ≡ (nat_lt a b || (nat_eq a b && r))
 then-is a b o r f = elim (cases_order a b) [
-    inl e ↦ rw (sym (nat_cmp_is a b Equal e), le-ltb a b (omega arith), eq-eqb a b e) f
+  | inl e ↦ rw (sym (nat_cmp_is a b Equal e), le-ltb a b (omega arith), eq-eqb a b e) f
   | inr q ↦ elim q [
-      inl l ↦ rw (sym (nat_cmp_is a b Less l), lt-ltb a b l) refl
+    | inl l ↦ rw (sym (nat_cmp_is a b Less l), lt-ltb a b l) refl
     | inr g ↦ rw (sym (nat_cmp_is a b Greater g), le-ltb a b (omega arith), ne_eqb a b (λ e. omega arith)) refl
-    ]
   ]
+]
 
 pub order-is : (h k : Hit) → is_lt (ordering_then (nat_cmp h.pre k.pre) (ordering_then (nat_cmp h.attr k.attr) (nat_cmp h.iter k.iter))) ≡ before (ctx_of h) (ctx_of k)
 order-is h k = then-is h.pre k.pre _ _ (then-is h.attr k.attr _ _ (lt-is h.iter k.iter))

@@ -78,13 +78,13 @@ wanted axis t cs = touched axis t (places cs)
 -- a counted row that is gathered
 counted-from : (axis : Axis) (test : NodeTest) (t : Tree TextId) (cs : List Ctx) (rows : List ℕ) (seen : List Seen) → Ready axis test t cs rows seen → (old new : List Hit) → AddsAll seen true (made axis true seen cs) old new → (h : Hit) → In h new → In h old ⊎ ((v : ℕ) × (v < length (enc t)) × (is_result axis t (places cs) v ≡ true) × (h ≡ row_hit v))
 counted-from axis test t cs rows seen r old new a h i = elim (a.sound h i) [
-    inl o ↦ inl o
+  | inl o ↦ inl o
   | inr f ↦ (let b = bridge t in
       let s = stands-from axis test t cs true (wanted axis t cs) h f.0 b r.span r.few (row-of axis t cs b r.nodes)
-            (subst (λ z. In f.0 (made axis true z cs)) r.seen_are f.1) (subst (λ z. Finds z true f.0 h) r.seen_are f.2) in
+      (subst (λ z. In f.0 (made axis true z cs)) r.seen_are f.1) (subst (λ z. Finds z true f.0 h) r.seen_are f.2) in
       let l = not-lone axis test t s.row r.sound s.within true s.lets_in in
       inr (s.row, s.within, result-from axis t cs s.row l s.within (s.ctx, s.there, s.on), s.is))
-  ]
+]
 
 counted-to : (axis : Axis) (test : NodeTest) (t : Tree TextId) (cs : List Ctx) (rows : List ℕ) (seen : List Seen) → Ready axis test t cs rows seen → (old new : List Hit) → AddsAll seen true (made axis true seen cs) old new → (v : ℕ) → v < length (enc t) → is_result axis t (places cs) v ≡ true → In (row_hit v) new
 counted-to axis test t cs rows seen r old new a v l e =
@@ -103,8 +103,8 @@ count-of : (p : ℕ → Bool) (m : ℕ) (hits : List Hit) (k : ℕ) → IsCount 
 count-of p m hits k c f g =
     let more : List Ctx = c.appends.more in
     c.count ∙ ap length c.appends.appended ∙ count-hits p m more c.appends.ascending
-      (λ x i. let h = c.appends.sound x (in-contains x more i) in let w = f h.0 (contains-in h.0 hits h.1) in (w.0, w.1, w.2, sym h.2 ∙ ap ctx_of w.3))
-      (λ v l e. contains-in (row_ctx v) more (c.appends.complete (row_hit v) (in-contains (row_hit v) hits (g v l e))))
+    (λ x i. let h = c.appends.sound x (in-contains x more i) in let w = f h.0 (contains-in h.0 hits h.1) in (w.0, w.1, w.2, sym h.2 ∙ ap ctx_of w.3))
+    (λ v l e. contains-in (row_ctx v) more (c.appends.complete (row_hit v) (in-contains (row_hit v) hits (g v l e))))
 
 up-after : (c : Ctx) (a m : ℕ) (xs : List ℕ) → UpFrom a m xs → c.pre < a → all_after c (map row_ctx xs)
 up-after c a m [] u l = tt
@@ -145,25 +145,25 @@ tally-is axis test t cs rows seen found before both result other skipped r a c e
     let is : (v : ℕ) → has v rows ≡ is_context axis (places cs) v = λ v. ap (has v) r.rows_are ∙ own-is axis cs v in
     let context : length rows ≡ count (is_context axis (places cs)) m = count-up (is_context axis (places cs)) m rows up is in
     let res : result ≡ count (is_result axis t (places cs)) m = count-of (is_result axis t (places cs)) m found result c
-          (λ h i. elim (counted-from axis test t cs rows seen r [] found a h i) [ inl o ↦ absurd o | inr w ↦ w ])
-          (λ v l q. counted-to axis test t cs rows seen r [] found a v l q) in
+    (λ h i. elim (counted-from axis test t cs rows seen r [] found a h i) [ inl o ↦ absurd o | inr w ↦ w ])
+    (λ v l q. counted-to axis test t cs rows seen r [] found a v l q) in
     let p : ℕ → Bool = λ v. is_context axis (places cs) v || is_result axis t (places cs) v in
     let oth : other ≡ count p m = count-of p m both other f
-          (λ h i. elim (counted-from axis test t cs rows seen r before both d h i) [
-              inl o ↦ (let w = hit-rows h rows (subst (λ z. In h z) e o) in let k = has-in w.0 rows w.1 in (w.0, (has-below 0 m w.0 rows up k).1, or_left (is_context axis (places cs) w.0) (is_result axis t (places cs) w.0) (sym (is w.0) ∙ k), w.2))
-            | inr w ↦ (w.0, w.1, or_right (is_context axis (places cs) w.0) (is_result axis t (places cs) w.0) w.2, w.3)
-            ])
-          (λ v l q. elim (or_cases (is_context axis (places cs) v) (is_result axis t (places cs) v) q) [
-              inl x ↦ d.kept (row_hit v) (subst (λ z. In (row_hit v) z) (sym e) (rows-hit v rows (in-has v rows (is v ∙ x))))
-            | inr x ↦ counted-to axis test t cs rows seen r before both d v l x
-            ]) in
+    (λ h i. elim (counted-from axis test t cs rows seen r before both d h i) [
+      | inl o ↦ (let w = hit-rows h rows (subst (λ z. In h z) e o) in let k = has-in w.0 rows w.1 in (w.0, (has-below 0 m w.0 rows up k).1, or_left (is_context axis (places cs) w.0) (is_result axis t (places cs) w.0) (sym (is w.0) ∙ k), w.2))
+      | inr w ↦ (w.0, w.1, or_right (is_context axis (places cs) w.0) (is_result axis t (places cs) w.0) w.2, w.3)
+    ])
+    (λ v l q. elim (or_cases (is_context axis (places cs) v) (is_result axis t (places cs) v) q) [
+      | inl x ↦ d.kept (row_hit v) (subst (λ z. In (row_hit v) z) (sym e) (rows-hit v rows (in-has v rows (is v ∙ x))))
+      | inr x ↦ counted-to axis test t cs rows seen r before both d v l x
+    ]) in
     let read : length seen ≡ count (touched axis t (places cs)) m = ap length r.seen_are ∙ length-map (touched_rows axis t (places cs)) (seen_of axis test t) in
     let parts = count-parts (touched axis t (places cs)) p m (λ v l q. elim (or_cases (is_context axis (places cs) v) (is_result axis t (places cs) v) q) [
-              inl x ↦ touch-own axis t cs v r.span l x
-            | inr x ↦ (let o = result-to axis t cs v x in touch-axis axis t cs o.1.0 v b r.span o.1.1 (row-of axis t cs b r.nodes o.1.0 o.1.1) l o.1.2)
-            ]) in
+      | inl x ↦ touch-own axis t cs v r.span l x
+      | inr x ↦ (let o = result-to axis t cs v x in touch-axis axis t cs o.1.0 v b r.span o.1.1 (row-of axis t cs b r.nodes o.1.0 o.1.1) l o.1.2)
+    ]) in
     let skip : skipped ≡ count (λ v. touched axis t (places cs) v && not (p v)) m = omega (arith, g, read, oth, parts) in
     ap (λ z. record { context = z; result = result; skipped = skipped; read = length seen }) context
-      ∙ ap (λ z. record { context = count (is_context axis (places cs)) m; result = z; skipped = skipped; read = length seen }) res
-      ∙ ap (λ z. record { context = count (is_context axis (places cs)) m; result = count (is_result axis t (places cs)) m; skipped = z; read = length seen }) skip
-      ∙ ap (λ z. record { context = count (is_context axis (places cs)) m; result = count (is_result axis t (places cs)) m; skipped = count (λ v. touched axis t (places cs) v && not (p v)) m; read = z }) read
+    ∙ ap (λ z. record { context = count (is_context axis (places cs)) m; result = z; skipped = skipped; read = length seen }) res
+    ∙ ap (λ z. record { context = count (is_context axis (places cs)) m; result = count (is_result axis t (places cs)) m; skipped = z; read = length seen }) skip
+    ∙ ap (λ z. record { context = count (is_context axis (places cs)) m; result = count (is_result axis t (places cs)) m; skipped = count (λ v. touched axis t (places cs) v && not (p v)) m; read = z }) read

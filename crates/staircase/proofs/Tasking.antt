@@ -32,27 +32,27 @@ found-from counting task h (s ∷ ss) k = here (lets counting s && keeps task s)
 found-all : (counting : Bool) (task : Task) (s : Seen) (ss : List Seen) → In s ss → lets counting s ≡ true → keeps task s ≡ true → In (hit_in task.iter s) (found counting task ss)
 found-all counting task s [] k l m = absurd k
 found-all counting task s (r ∷ ss) k l m = elim k [
-    inl e ↦ (let both : (lets counting s && keeps task s) ≡ true = and_from (lets counting s) (keeps task s) l m in
-             in-left (hit_in task.iter s) (cond (lets counting r && keeps task r) (hit_in task.iter r ∷ []) []) (found counting task ss)
-               (subst (λ (z : Seen). In (hit_in task.iter s) (cond (lets counting z && keeps task z) (hit_in task.iter z ∷ []) [])) e (rw both (inl refl))))
+  | inl e ↦ (let both : (lets counting s && keeps task s) ≡ true = and_from (lets counting s) (keeps task s) l m in
+      in-left (hit_in task.iter s) (cond (lets counting r && keeps task r) (hit_in task.iter r ∷ []) []) (found counting task ss)
+      (subst (λ (z : Seen). In (hit_in task.iter s) (cond (lets counting z && keeps task z) (hit_in task.iter z ∷ []) [])) e (rw both (inl refl))))
   | inr x ↦ in-right (hit_in task.iter s) (cond (lets counting r && keeps task r) (hit_in task.iter r ∷ []) []) (found counting task ss) (found-all counting task s ss x l m)
-  ]
+]
 
 pub adds-found : (seen part : List Seen) (counting : Bool) (task : Task) (old new : List Hit) → Between seen task.first task.end part → new ≡ old ++ found counting task part → Adds seen counting task old new
 adds-found seen part counting task old new b e = record {
-    kept = λ h k. subst (λ z. In h z) (sym e) (in-left h old (found counting task part) k);
-    sound = λ h k. elim (in-parts h old (found counting task part) (subst (λ z. In h z) e k)) [
-        inl a ↦ inl a
-      | inr r ↦ (let x = found-from counting task h part r in
-                 let w = b.within x.0 x.1 in
-                 inr (x.0, w.0, x.2, and_from (nat_le task.first x.0.pre && nat_lt x.0.pre task.end) (keeps task x.0) (and_from (nat_le task.first x.0.pre) (nat_lt x.0.pre task.end) (le-leb task.first x.0.pre w.1) (lt-ltb x.0.pre task.end w.2)) x.3, x.4))
-      ];
-    complete = λ h f.
+  kept = λ h k. subst (λ z. In h z) (sym e) (in-left h old (found counting task part) k);
+  sound = λ h k. elim (in-parts h old (found counting task part) (subst (λ z. In h z) e k)) [
+    | inl a ↦ inl a
+    | inr r ↦ (let x = found-from counting task h part r in
+        let w = b.within x.0 x.1 in
+        inr (x.0, w.0, x.2, and_from (nat_le task.first x.0.pre && nat_lt x.0.pre task.end) (keeps task x.0) (and_from (nat_le task.first x.0.pre) (nat_lt x.0.pre task.end) (le-leb task.first x.0.pre w.1) (lt-ltb x.0.pre task.end w.2)) x.3, x.4))
+  ];
+  complete = λ h f.
       let p = and_parts (nat_le task.first f.0.pre && nat_lt f.0.pre task.end) (keeps task f.0) f.3 in
       let q = and_parts (nat_le task.first f.0.pre) (nat_lt f.0.pre task.end) p.0 in
       let there : In f.0 part = b.all f.0 f.1 (leb-true task.first f.0.pre q.0) (ltb-true f.0.pre task.end q.1) in
-      subst (λ z. In h z) (sym e) (in-right h old (found counting task part) (subst (λ (z : Hit). In z (found counting task part)) (sym f.4) (found-all counting task f.0 part there f.2 p.1)))
-  }
+      subst (λ z. In h z) (sym e) (in-right h old (found counting task part) (subst (λ (z : Hit). In z (found counting task part)) (sym f.4) (found-all counting task f.0 part there f.2 p.1)));
+}
 
 -- what a task finds that another one covers, the other one finds
 pub covered : (seen : List Seen) (counting : Bool) (task other : Task) (h : Hit) → covers task other ≡ true → Finds seen counting other h → Finds seen counting task h
@@ -67,15 +67,19 @@ covered seen counting task other h c f =
     let q = and_parts (nat_le other.first s.pre) (nat_lt s.pre other.end) p.0 in
     let k = and_parts (at_level other.level s) (ends_before other.limit s) p.1 in
     let lo : task.first ≤ s.pre = omega (arith, leb-true task.first other.first b.0, leb-true other.first s.pre q.0) in
-    let hi : s.pre < task.end = omega (arith, leb-true other.end task.end d.0, ltb-true s.pre other.end q.1) in
-    (s, f.1, f.2,
-     and_from (nat_le task.first s.pre && nat_lt s.pre task.end) (keeps task s) (and_from (nat_le task.first s.pre) (nat_lt s.pre task.end) (le-leb task.first s.pre lo) (lt-ltb s.pre task.end hi))
-       (and_from (at_level task.level s) (ends_before task.limit s) (level task.level g.0) (limit task.limit other.limit g.1 k.1)),
-     f.4 ∙ ap (λ z. hit_in z s) (sym iter))
+    let hi : s.pre < task.end = omega (arith, leb-true other.end task.end d.0, ltb-true s.pre other.end q.1) in (
+      s,
+      f.1,
+      f.2,
+      and_from (nat_le task.first s.pre && nat_lt s.pre task.end) (keeps task s) (and_from (nat_le task.first s.pre) (nat_lt s.pre task.end) (le-leb task.first s.pre lo) (lt-ltb s.pre task.end hi))
+          (and_from (at_level task.level s) (ends_before task.limit s) (level task.level g.0) (limit task.limit other.limit g.1 k.1)),
+      f.4 ∙ ap (λ z. hit_in z s) (sym iter),
+    )
   where
     level : (l : Option ℕ) → is_none l ≡ true → at_level l f.0 ≡ true
     level None e = refl
     level (Some x) e = absurd (false≢true e)
+
     limit : (l o : Option ℕ) → limit_covers l o ≡ true → ends_before o f.0 ≡ true → ends_before l f.0 ≡ true
     limit None o e r = refl
     limit (Some x) None e r = absurd (false≢true e)
@@ -85,25 +89,25 @@ covered seen counting task other h c f =
 
 pub go-covered : (seen : List Seen) (counting : Bool) (before task : Task) (hits : List Hit) → covers before task ≡ true → AllOf seen counting (Some before) hits → Goes seen counting (Some before) (Some before) task hits hits
 go-covered seen counting before task hits c a = record {
-    adds = record { kept = λ h k. k; sound = λ h k. inl k; complete = λ h f. a h (covered seen counting before task h c f) };
-    all = a
-  }
+  adds = record { kept = λ h k. k; sound = λ h k. inl k; complete = λ h f. a h (covered seen counting before task h c f) };
+  all = a;
+}
 
 pub go-done : (seen : List Seen) (counting : Bool) (before : Option Task) (task : Task) (old new : List Hit) → Adds seen counting task old new → Goes seen counting before (Some task) task old new
 go-done seen counting before task old new a = record { adds = a; all = a.complete }
 
 adds-more : (seen : List Seen) (counting : Bool) (tasks : List Task) (task : Task) (old mid new : List Hit) → AddsAll seen counting tasks old mid → Adds seen counting task mid new → AddsAll seen counting (tasks ++ task ∷ []) old new
 adds-more seen counting tasks task old mid new a b = record {
-    kept = λ h k. b.kept h (a.kept h k);
-    sound = λ h k. elim (b.sound h k) [
-        inl m ↦ elim (a.sound h m) [ inl o ↦ inl o | inr t ↦ inr (t.0, in-left t.0 tasks (task ∷ []) t.1, t.2) ]
-      | inr f ↦ inr (task, in-right task tasks (task ∷ []) (inl refl), f)
-      ];
-    complete = λ t i h f. elim (in-parts t tasks (task ∷ []) i) [
-        inl x ↦ b.kept h (a.complete t x h f)
-      | inr y ↦ elim y [ inl e ↦ b.complete h (subst (λ (z : Task). Finds seen counting z h) e f) | inr z ↦ absurd z ]
-      ]
-  }
+  kept = λ h k. b.kept h (a.kept h k);
+  sound = λ h k. elim (b.sound h k) [
+    | inl m ↦ elim (a.sound h m) [ inl o ↦ inl o | inr t ↦ inr (t.0, in-left t.0 tasks (task ∷ []) t.1, t.2) ]
+    | inr f ↦ inr (task, in-right task tasks (task ∷ []) (inl refl), f)
+  ];
+  complete = λ t i h f. elim (in-parts t tasks (task ∷ []) i) [
+    | inl x ↦ b.kept h (a.complete t x h f)
+    | inr y ↦ elim y [ inl e ↦ b.complete h (subst (λ (z : Task). Finds seen counting z h) e f) | inr z ↦ absurd z ]
+  ];
+}
 
 pub adds-step : (seen : List Seen) (counting : Bool) (ts : List Task) (k : ℕ) (task : Task) (d : Task) (old mid new : List Hit) → k < length ts → task ≡ slice_index_or ts k d → AddsAll seen counting (take k ts) old mid → Adds seen counting task mid new → AddsAll seen counting (take (k + 1) ts) old new
 adds-step seen counting ts k task d old mid new l e a b =
@@ -124,10 +128,10 @@ adds-whole seen counting tasks ts k old new p l a =
     record {
       kept = a.kept;
       sound = λ h i. elim (a.sound h i) [
-          inl o ↦ inl o
+        | inl o ↦ inl o
         | inr t ↦ inr (t.0, contains-in t.0 tasks (Contains-permutation ts tasks t.0 (IsPermutation-sym tasks ts p) (in-contains t.0 ts (subst (λ z. In t.0 z) whole t.1))), t.2)
-        ];
-      complete = λ t i h f. a.complete t (subst (λ z. In t z) (sym whole) (contains-in t ts (Contains-permutation tasks ts t p (in-contains t tasks i)))) h f
+      ];
+      complete = λ t i h f. a.complete t (subst (λ z. In t z) (sym whole) (contains-in t ts (Contains-permutation tasks ts t p (in-contains t tasks i)))) h f;
     }
 
 -- ---- the row of a node

@@ -103,27 +103,32 @@ after-touches t cs v b nodes l = rw (own-is a.Following cs v) (ap (λ z. is_cont
   where
     row : (c : Ctx) → In c cs → c.pre < length (enc t)
     row c i = node-row t (place_of c) b (nodes c i)
+
     on : (c : ℕ) (k : ℕ) → c < length (enc t) → follows (enc t) c v ≡ true → on_following (record { steps = path_at t c; attr = k }) (row_path t v) ≡ true
     on c zero h f = by-following t c v b h l ∙ f
     on c (suc k) h f = after-attribute t c k v b h l ∙ lt-ltb c v (omega (arith, ltb-true (c + (line_in (enc t) c).size) v f))
+
     on-owner : (c : ℕ) (k : ℕ) → c < length (enc t) → nat_eq k 0 ≡ false → nat_lt c v ≡ true → on_following (record { steps = path_at t c; attr = k }) (row_path t v) ≡ true
     on-owner c zero h z f = absurd (true≢false z)
     on-owner c (suc k) h z f = after-attribute t c k v b h l ∙ f
+
     wanted-owner : (k : ℕ) → cond (nat_eq k 0) false true ≡ true → nat_eq k 0 ≡ false
     wanted-owner k e = at (nat_eq k 0) e
       where
         at : (d : Bool) → cond d false true ≡ true → d ≡ false
         at true e = absurd (false≢true e)
         at false e = refl
+
     to : (any (λ c. follows (enc t) c v) (own a.Following cs) || any (λ c. nat_lt c v) (owning cs)) ≡ true → some_place (λ c. on_following (place_path t c) (row_path t v)) (places cs) ≡ true
     to h = elim (or_cases (any (λ c. follows (enc t) c v) (own a.Following cs)) (any (λ c. nat_lt c v) (owning cs)) h) [
-        inl x ↦ (let r = in-any (λ c. follows (enc t) c v) (own a.Following cs) x in
-                 let s = rows-sound true true None cs r.0 r.1 in
-                 place-in_some (λ c. on_following (place_path t c) (row_path t v)) s.0 cs s.1 (on s.0.pre s.0.attr (row s.0 s.1) (ap (λ z. follows (enc t) z v) s.2 ∙ r.2)))
+      | inl x ↦ (let r = in-any (λ c. follows (enc t) c v) (own a.Following cs) x in
+          let s = rows-sound true true None cs r.0 r.1 in
+          place-in_some (λ c. on_following (place_path t c) (row_path t v)) s.0 cs s.1 (on s.0.pre s.0.attr (row s.0 s.1) (ap (λ z. follows (enc t) z v) s.2 ∙ r.2)))
       | inr x ↦ (let r = in-any (λ c. nat_lt c v) (owning cs) x in
-                 let s = rows-sound false true None cs r.0 r.1 in
-                 place-in_some (λ c. on_following (place_path t c) (row_path t v)) s.0 cs s.1 (on-owner s.0.pre s.0.attr (row s.0 s.1) (wanted-owner s.0.attr s.3) (ap (λ z. nat_lt z v) s.2 ∙ r.2)))
-      ]
+          let s = rows-sound false true None cs r.0 r.1 in
+          place-in_some (λ c. on_following (place_path t c) (row_path t v)) s.0 cs s.1 (on-owner s.0.pre s.0.attr (row s.0 s.1) (wanted-owner s.0.attr s.3) (ap (λ z. nat_lt z v) s.2 ∙ r.2)))
+    ]
+
     back : (c : Ctx) → In c cs → (k : ℕ) → c.attr ≡ k → on_following (record { steps = path_at t c.pre; attr = k }) (row_path t v) ≡ true → (any (λ c. follows (enc t) c v) (own a.Following cs) || any (λ c. nat_lt c v) (owning cs)) ≡ true
     back c i zero e h =
         let w : is_wanted true true c ≡ true = rw e refl in
@@ -133,5 +138,6 @@ after-touches t cs v b nodes l = rw (own-is a.Following cs v) (ap (λ z. is_cont
         let w : is_wanted false true c ≡ true = rw (e, ne_eqb (suc k) 0 (λ q. omega arith)) refl in
         let there : In c.pre (owning cs) = elim (rows-complete false true None cs c i w) [ inl x ↦ absurd (none-some x) | inr x ↦ x ] in
         or_right (any (λ c. follows (enc t) c v) (own a.Following cs)) (any (λ c. nat_lt c v) (owning cs)) (any-in (λ c. nat_lt c v) c.pre (owning cs) there (sym (after-attribute t c.pre k v b (row c i) l) ∙ h))
+
     from : some_place (λ c. on_following (place_path t c) (row_path t v)) (places cs) ≡ true → (any (λ c. follows (enc t) c v) (own a.Following cs) || any (λ c. nat_lt c v) (owning cs)) ≡ true
     from h = (let r = some-place_in (λ c. on_following (place_path t c) (row_path t v)) cs h in back r.0 r.1 r.0.attr refl r.2)

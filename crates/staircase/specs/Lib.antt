@@ -6,6 +6,7 @@ pub mod Joins
 pub mod Made
 pub mod Parts
 pub mod Passes
+pub mod Samples
 pub mod Seen
 pub mod Tasks
 pub mod Tests

@@ -30,13 +30,13 @@ is_element k.Pi = false
 
 abbrev pub seen_from : Axis → NodeTest → ℕ → Row → Seen
 seen_from axis test at row = record {
-    pre = at;
-    last = at + row.size;
-    level = row.level;
-    element = is_element row.kind;
-    node = is_node_row row.kind row.name;
-    passes = is_node_row row.kind row.name && selects id_eq axis (test_of test) (kind_of_row row.kind) row.name;
-  }
+  pre = at;
+  last = at + row.size;
+  level = row.level;
+  element = is_element row.kind;
+  node = is_node_row row.kind row.name;
+  passes = is_node_row row.kind row.name && selects id_eq axis (test_of test) (kind_of_row row.kind) row.name;
+}
 
 -- row v of a tree
 abbrev pub seen_of : Axis → NodeTest → Tree TextId → ℕ → Seen

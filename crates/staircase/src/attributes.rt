@@ -28,7 +28,14 @@ fn holds_self(axis: Axis) -> bool
 }
 
 /// Gathers an attribute of a node's row, where it passes the node test.
-fn push_attribute(axis: Axis, test: NodeTest, ctx: Ctx, attr: u32, name: TextId, hits: &mut Vec<Hit>) -> Result<(), Want>
+fn push_attribute(
+    axis: Axis,
+    test: NodeTest,
+    ctx: Ctx,
+    attr: u32,
+    name: TextId,
+    hits: &mut Vec<Hit>,
+) -> Result<(), Want>
     ensures { OnOk result (hits.new.items ≡ hits.old.items ++ attribute_hit axis test ctx attr name) }
 {
     if !attribute_passes(axis, test, name) {
@@ -46,7 +53,13 @@ fn push_attribute(axis: Axis, test: NodeTest, ctx: Ctx, attr: u32, name: TextId,
 }
 
 /// Gathers the attribute that a node is itself.
-fn own_attribute(axis: Axis, test: NodeTest, ctx: Ctx, attributes: &[(TextId, TextId)], hits: &mut Vec<Hit>) -> Result<(), Want>
+fn own_attribute(
+    axis: Axis,
+    test: NodeTest,
+    ctx: Ctx,
+    attributes: &[(TextId, TextId)],
+    hits: &mut Vec<Hit>,
+) -> Result<(), Want>
     requires { 0 < ctx.attr }
     ensures { OnOk result (hits.new.items ≡ hits.old.items ++ own_hit axis test ctx (nth_pair attributes.now ctx.attr)) }
 {
@@ -58,7 +71,13 @@ fn own_attribute(axis: Axis, test: NodeTest, ctx: Ctx, attributes: &[(TextId, Te
 }
 
 /// Gathers the attributes of a row.
-fn all_attributes(axis: Axis, test: NodeTest, ctx: Ctx, attributes: &[(TextId, TextId)], hits: &mut Vec<Hit>) -> Result<(), Want>
+fn all_attributes(
+    axis: Axis,
+    test: NodeTest,
+    ctx: Ctx,
+    attributes: &[(TextId, TextId)],
+    hits: &mut Vec<Hit>,
+) -> Result<(), Want>
     requires { length attributes.now < 2 ^ 32 - 1 }
     ensures { OnOk result (hits.new.items ≡ hits.old.items ++ all_hits axis test ctx 1 attributes.now) }
 {
@@ -71,7 +90,14 @@ fn all_attributes(axis: Axis, test: NodeTest, ctx: Ctx, attributes: &[(TextId, T
 }
 
 /// Gathers the attributes on the axis of a node.
-fn push_attributes<R: Rows>(axis: Axis, test: NodeTest, rows: &R, seen: &[Seen], ctx: Ctx, hits: &mut Vec<Hit>) -> Result<(), Want>
+fn push_attributes<R: Rows>(
+    axis: Axis,
+    test: NodeTest,
+    rows: &R,
+    seen: &[Seen],
+    ctx: Ctx,
+    hits: &mut Vec<Hit>,
+) -> Result<(), Want>
     requires rows { AreRows seen.now }
     requires seen { AllSeen axis test (R.tree rows.now) seen.now }
     requires sound { is_sound id_eq is_empty_id (R.tree rows.now) ≡ true }
@@ -94,7 +120,14 @@ fn push_attributes<R: Rows>(axis: Axis, test: NodeTest, rows: &R, seen: &[Seen],
 }
 
 /// Gathers the attributes on the axis of the nodes of a context.
-pub(crate) fn attribute_hits<R: Rows>(axis: Axis, test: NodeTest, rows: &R, seen: &[Seen], context: &[Ctx], hits: &mut Vec<Hit>) -> Result<(), Want>
+pub(crate) fn attribute_hits<R: Rows>(
+    axis: Axis,
+    test: NodeTest,
+    rows: &R,
+    seen: &[Seen],
+    context: &[Ctx],
+    hits: &mut Vec<Hit>,
+) -> Result<(), Want>
     requires rows { AreRows seen.now }
     requires seen { AllSeen axis test (R.tree rows.now) seen.now }
     requires sound { is_sound id_eq is_empty_id (R.tree rows.now) ≡ true }

@@ -38,7 +38,12 @@ fn push_row(wanted: bool, last: Option<u32>, pre: u32, found: &mut Vec<u32>) -> 
 
 /// The rows of the nodes of a context, ascending, each once: of those that are rows, of those that are
 /// attributes, or of both.
-pub(crate) fn context_rows(alloc: Global, rows: bool, owners: bool, context: &[Ctx]) -> Result<Vec<u32>, Want>
+pub(crate) fn context_rows(
+    alloc: Global,
+    rows: bool,
+    owners: bool,
+    context: &[Ctx],
+) -> Result<Vec<u32>, Want>
     ensures { IfOk result (λ found. found.items ≡ rows_from rows owners None context.now) }
 {
     let mut found = Vec::new(alloc);

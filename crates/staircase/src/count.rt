@@ -41,7 +41,13 @@ fn push_rows(rows: &[u32], hits: &mut Vec<Hit>) -> Result<(), Want>
 }
 
 /// The counts of a step that has read these rows for the rows of its context.
-pub(crate) fn tally(alloc: Global, axis: Axis, rows: &[u32], seen: &[Seen], context: &[Ctx]) -> Result<Tally, Want>
+pub(crate) fn tally(
+    alloc: Global,
+    axis: Axis,
+    rows: &[u32],
+    seen: &[Seen],
+    context: &[Ctx],
+) -> Result<Tally, Want>
     requires { AreRows seen.now }
     ensures { IfOk result (λ tally. (test : NodeTest) (t : Tree TextId) → Ready axis test t context.now rows.now seen.now → tally ≡ tally_of (counts axis t (places context.now))) }
 {

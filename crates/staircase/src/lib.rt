@@ -22,6 +22,8 @@ mod step;
 mod task;
 mod tasks;
 mod test;
+#[cfg(test)]
+mod tests;
 
 pub use kinds::{Ctx, Tally};
 pub use step::span_step;

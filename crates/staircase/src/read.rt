@@ -35,7 +35,16 @@ pub(crate) trait Pass {
 }
 
 /// Reads the rows that a pass wants, ascending, each once.
-pub(crate) fn read_rows<R: Rows, L: Ledger, P: Pass>(alloc: Global, rows: &R, frag: FragKey, site: u32, axis: Axis, test: NodeTest, pass: &mut P, reads: &mut Reads<L>) -> Result<Vec<Seen>, Want>
+pub(crate) fn read_rows<R: Rows, L: Ledger, P: Pass>(
+    alloc: Global,
+    rows: &R,
+    frag: FragKey,
+    site: u32,
+    axis: Axis,
+    test: NodeTest,
+    pass: &mut P,
+    reads: &mut Reads<L>,
+) -> Result<Vec<Seen>, Want>
     requires knows { P.knows pass.old (R.tree rows.now) 0 }
     ensures notes { Reading reads.old.notes reads.new.notes site frag (picked (P.wants pass.old (R.tree rows.now)) (length (enc (R.tree rows.now)))) result }
     ensures refuses { reads.new.may_refuse ≡ reads.old.may_refuse }

@@ -34,7 +34,17 @@ fn end_of(rows: &[u32]) -> u32
 }
 
 /// Reads the rows of a step on self or attribute.
-pub(crate) fn read_own<R: Rows, L: Ledger>(alloc: Global, rows: &R, frag: FragKey, site: u32, axis: Axis, test: NodeTest, found: &[u32], context: &[Ctx], reads: &mut Reads<L>) -> Result<Vec<Seen>, Want>
+pub(crate) fn read_own<R: Rows, L: Ledger>(
+    alloc: Global,
+    rows: &R,
+    frag: FragKey,
+    site: u32,
+    axis: Axis,
+    test: NodeTest,
+    found: &[u32],
+    context: &[Ctx],
+    reads: &mut Reads<L>,
+) -> Result<Vec<Seen>, Want>
     requires axis { is_own axis ≡ true }
     requires found { found.now ≡ own axis context.now }
     requires few { length (enc (R.tree rows.now)) < 2 ^ 32 }
@@ -45,13 +55,26 @@ pub(crate) fn read_own<R: Rows, L: Ledger>(alloc: Global, rows: &R, frag: FragKe
     ensures seen { IfOk result (λ seen. seen.items ≡ map (seen_of axis test (R.tree rows.now)) (touched_rows axis (R.tree rows.now) (places context.now))) }
 {
     let mut pass = Own {
-        ahead: Ahead { rows: found, next: 0 },
+        ahead: Ahead {
+            rows: found,
+            next: 0,
+        },
     };
     read_rows(alloc, rows, frag, site, axis, test, &mut pass, reads)
 }
 
 /// Reads the rows of a step on descendant or descendant-or-self.
-pub(crate) fn read_down<R: Rows, L: Ledger>(alloc: Global, rows: &R, frag: FragKey, site: u32, axis: Axis, test: NodeTest, found: &[u32], context: &[Ctx], reads: &mut Reads<L>) -> Result<Vec<Seen>, Want>
+pub(crate) fn read_down<R: Rows, L: Ledger>(
+    alloc: Global,
+    rows: &R,
+    frag: FragKey,
+    site: u32,
+    axis: Axis,
+    test: NodeTest,
+    found: &[u32],
+    context: &[Ctx],
+    reads: &mut Reads<L>,
+) -> Result<Vec<Seen>, Want>
     requires axis { is_down axis ≡ true }
     requires found { found.now ≡ own axis context.now }
     requires few { length (enc (R.tree rows.now)) < 2 ^ 32 }
@@ -62,14 +85,27 @@ pub(crate) fn read_down<R: Rows, L: Ledger>(alloc: Global, rows: &R, frag: FragK
     ensures seen { IfOk result (λ seen. seen.items ≡ map (seen_of axis test (R.tree rows.now)) (touched_rows axis (R.tree rows.now) (places context.now))) }
 {
     let mut pass = Down {
-        ahead: Ahead { rows: found, next: 0 },
+        ahead: Ahead {
+            rows: found,
+            next: 0,
+        },
         reach: 0,
     };
     read_rows(alloc, rows, frag, site, axis, test, &mut pass, reads)
 }
 
 /// Reads the rows of a step on preceding.
-pub(crate) fn read_before<R: Rows, L: Ledger>(alloc: Global, rows: &R, frag: FragKey, site: u32, axis: Axis, test: NodeTest, found: &[u32], context: &[Ctx], reads: &mut Reads<L>) -> Result<Vec<Seen>, Want>
+pub(crate) fn read_before<R: Rows, L: Ledger>(
+    alloc: Global,
+    rows: &R,
+    frag: FragKey,
+    site: u32,
+    axis: Axis,
+    test: NodeTest,
+    found: &[u32],
+    context: &[Ctx],
+    reads: &mut Reads<L>,
+) -> Result<Vec<Seen>, Want>
     requires axis { axis ≡ Axis.Preceding }
     requires found { found.now ≡ own axis context.now }
     requires few { length (enc (R.tree rows.now)) < 2 ^ 32 }
@@ -84,7 +120,17 @@ pub(crate) fn read_before<R: Rows, L: Ledger>(alloc: Global, rows: &R, frag: Fra
 }
 
 /// Reads the rows of a step on following.
-pub(crate) fn read_after<R: Rows, L: Ledger>(alloc: Global, rows: &R, frag: FragKey, site: u32, axis: Axis, test: NodeTest, found: &[u32], context: &[Ctx], reads: &mut Reads<L>) -> Result<Vec<Seen>, Want>
+pub(crate) fn read_after<R: Rows, L: Ledger>(
+    alloc: Global,
+    rows: &R,
+    frag: FragKey,
+    site: u32,
+    axis: Axis,
+    test: NodeTest,
+    found: &[u32],
+    context: &[Ctx],
+    reads: &mut Reads<L>,
+) -> Result<Vec<Seen>, Want>
     requires axis { axis ≡ Axis.Following }
     requires found { found.now ≡ own axis context.now }
     requires few { length (enc (R.tree rows.now)) < 2 ^ 32 }
@@ -96,7 +142,10 @@ pub(crate) fn read_after<R: Rows, L: Ledger>(alloc: Global, rows: &R, frag: Frag
 {
     let owners = context_rows(alloc, false, true, context)?;
     let mut pass = After {
-        ahead: Ahead { rows: found, next: 0 },
+        ahead: Ahead {
+            rows: found,
+            next: 0,
+        },
         owners: Ahead {
             rows: owners.as_slice(),
             next: 0,
@@ -107,7 +156,17 @@ pub(crate) fn read_after<R: Rows, L: Ledger>(alloc: Global, rows: &R, frag: Frag
 }
 
 /// Reads the rows of a step on child.
-pub(crate) fn read_kids<R: Rows, L: Ledger>(alloc: Global, rows: &R, frag: FragKey, site: u32, axis: Axis, test: NodeTest, found: &[u32], context: &[Ctx], reads: &mut Reads<L>) -> Result<Vec<Seen>, Want>
+pub(crate) fn read_kids<R: Rows, L: Ledger>(
+    alloc: Global,
+    rows: &R,
+    frag: FragKey,
+    site: u32,
+    axis: Axis,
+    test: NodeTest,
+    found: &[u32],
+    context: &[Ctx],
+    reads: &mut Reads<L>,
+) -> Result<Vec<Seen>, Want>
     requires axis { axis ≡ Axis.Child }
     requires found { found.now ≡ own axis context.now }
     requires few { length (enc (R.tree rows.now)) < 2 ^ 32 }
@@ -118,7 +177,10 @@ pub(crate) fn read_kids<R: Rows, L: Ledger>(alloc: Global, rows: &R, frag: FragK
     ensures seen { IfOk result (λ seen. seen.items ≡ map (seen_of axis test (R.tree rows.now)) (touched_rows axis (R.tree rows.now) (places context.now))) }
 {
     let mut pass = Kids {
-        ahead: Ahead { rows: found, next: 0 },
+        ahead: Ahead {
+            rows: found,
+            next: 0,
+        },
         frames: Frames::new(alloc),
     };
     read_rows(alloc, rows, frag, site, axis, test, &mut pass, reads)

@@ -24,7 +24,17 @@ use std::alloc::Global;
 use xq_base::{Axis, FragKey, NodeTest, Want};
 
 /// Reads the rows of a step.
-fn read_axis<R: Rows, L: Ledger>(alloc: Global, rows: &R, frag: FragKey, site: u32, axis: Axis, test: NodeTest, found: &[u32], context: &[Ctx], reads: &mut Reads<L>) -> Result<Vec<Seen>, Want>
+fn read_axis<R: Rows, L: Ledger>(
+    alloc: Global,
+    rows: &R,
+    frag: FragKey,
+    site: u32,
+    axis: Axis,
+    test: NodeTest,
+    found: &[u32],
+    context: &[Ctx],
+    reads: &mut Reads<L>,
+) -> Result<Vec<Seen>, Want>
     requires found { found.now ≡ own axis context.now }
     requires few { length (enc (R.tree rows.now)) < 2 ^ 32 }
     requires ascending { Ascending context.now }
@@ -34,8 +44,12 @@ fn read_axis<R: Rows, L: Ledger>(alloc: Global, rows: &R, frag: FragKey, site: u
     ensures seen { IfOk result (λ seen. seen.items ≡ map (seen_of axis test (R.tree rows.now)) (touched_rows axis (R.tree rows.now) (places context.now))) }
 {
     match axis {
-        Axis::SelfNode | Axis::Attribute => read_own(alloc, rows, frag, site, axis, test, found, context, reads),
-        Axis::Descendant | Axis::DescendantOrSelf => read_down(alloc, rows, frag, site, axis, test, found, context, reads),
+        Axis::SelfNode | Axis::Attribute => read_own(
+            alloc, rows, frag, site, axis, test, found, context, reads,
+        ),
+        Axis::Descendant | Axis::DescendantOrSelf => read_down(
+            alloc, rows, frag, site, axis, test, found, context, reads,
+        ),
         Axis::Child => read_kids(alloc, rows, frag, site, axis, test, found, context, reads),
         Axis::Preceding => read_before(alloc, rows, frag, site, axis, test, found, context, reads),
         Axis::Following => read_after(alloc, rows, frag, site, axis, test, found, context, reads),
@@ -44,7 +58,16 @@ fn read_axis<R: Rows, L: Ledger>(alloc: Global, rows: &R, frag: FragKey, site: u
 }
 
 /// Appends the hits of a step that has read its rows, and counts.
-fn finish<R: Rows>(alloc: Global, axis: Axis, test: NodeTest, rows: &R, found: &[u32], seen: &[Seen], context: &[Ctx], out: &mut Vec<Ctx>) -> Result<Tally, Want>
+fn finish<R: Rows>(
+    alloc: Global,
+    axis: Axis,
+    test: NodeTest,
+    rows: &R,
+    found: &[u32],
+    seen: &[Seen],
+    context: &[Ctx],
+    out: &mut Vec<Ctx>,
+) -> Result<Tally, Want>
     requires rows { AreRows seen.now }
     requires seen { AllSeen axis test (R.tree rows.now) seen.now }
     requires ready { Ready axis test (R.tree rows.now) context.now found.now seen.now }
@@ -64,7 +87,17 @@ fn finish<R: Rows>(alloc: Global, axis: Axis, test: NodeTest, rows: &R, found: &
 /// the context in each iteration that pass the test, ascending by row, attribute and iteration, each
 /// once, and counts. It reads exactly the rows that the step touches, ascending, each once. For want
 /// of memory the hits are as before and some first ones of these rows were read.
-pub fn span_step<R: Rows, L: Ledger>(alloc: Global, rows: &R, frag: FragKey, site: u32, axis: Axis, test: NodeTest, context: &[Ctx], out: &mut Vec<Ctx>, reads: &mut Reads<L>) -> Result<Tally, Want>
+pub fn span_step<R: Rows, L: Ledger>(
+    alloc: Global,
+    rows: &R,
+    frag: FragKey,
+    site: u32,
+    axis: Axis,
+    test: NodeTest,
+    context: &[Ctx],
+    out: &mut Vec<Ctx>,
+    reads: &mut Reads<L>,
+) -> Result<Tally, Want>
     requires axis { is_span axis ≡ true }
     requires ascending { Ascending context.now }
     requires nodes { AreNodes (R.tree rows.now) context.now }
@@ -77,8 +110,27 @@ pub fn span_step<R: Rows, L: Ledger>(alloc: Global, rows: &R, frag: FragKey, sit
     let _total = rows.len();
     let start = out.len();
     let found = context_rows(alloc, true, adds_owner(axis), context)?;
-    let seen = read_axis(alloc, rows, frag, site, axis, test, found.as_slice(), context, reads)?;
-    match finish(alloc, axis, test, rows, found.as_slice(), seen.as_slice(), context, out) {
+    let seen = read_axis(
+        alloc,
+        rows,
+        frag,
+        site,
+        axis,
+        test,
+        found.as_slice(),
+        context,
+        reads,
+    )?;
+    match finish(
+        alloc,
+        axis,
+        test,
+        rows,
+        found.as_slice(),
+        seen.as_slice(),
+        context,
+        out,
+    ) {
         Ok(tally) => Ok(tally),
         Err(e) => {
             out.truncate(start);

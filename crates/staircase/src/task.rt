@@ -45,7 +45,11 @@ pub(crate) fn covers(task: Task, other: Task) -> bool
             Some(other) => other <= limit,
         },
     };
-    task.iter == other.iter && task.first <= other.first && other.end <= task.end && task.level.is_none() && limit
+    task.iter == other.iter
+        && task.first <= other.first
+        && other.end <= task.end
+        && task.level.is_none()
+        && limit
 }
 
 /// Gathers a hit for a row, where a task looks for it.
@@ -69,7 +73,12 @@ fn find(seen: Seen, counting: bool, task: Task, hits: &mut Vec<Hit>) -> Result<(
 
 /// Gathers a hit for each row that a task looks for: those that are nodes, where they are only
 /// counted, else those that pass the node test.
-pub(crate) fn do_task(seen: &[Seen], counting: bool, task: Task, hits: &mut Vec<Hit>) -> Result<(), Want>
+pub(crate) fn do_task(
+    seen: &[Seen],
+    counting: bool,
+    task: Task,
+    hits: &mut Vec<Hit>,
+) -> Result<(), Want>
     ensures { OnOk result (IsRising seen.now → Adds seen.now counting task hits.old.items hits.new.items) }
 {
     for s in part(seen, task.first, task.end) {

@@ -51,7 +51,13 @@ fn task_for(axis: Axis, iter: u64, attr: u32, own: Seen) -> Option<Task>
 }
 
 /// Appends what a node of a context looks for.
-fn push_task(axis: Axis, counting: bool, seen: &[Seen], ctx: Ctx, tasks: &mut Vec<Task>) -> Result<(), Want>
+fn push_task(
+    axis: Axis,
+    counting: bool,
+    seen: &[Seen],
+    ctx: Ctx,
+    tasks: &mut Vec<Task>,
+) -> Result<(), Want>
     requires { AreRows seen.now }
     ensures { OnOk result (tasks.new.items ≡ tasks.old.items ++ made_one axis counting seen.now ctx) }
 {
@@ -71,7 +77,13 @@ fn push_task(axis: Axis, counting: bool, seen: &[Seen], ctx: Ctx, tasks: &mut Ve
 }
 
 /// What the nodes of a context look for.
-fn make_tasks(axis: Axis, counting: bool, seen: &[Seen], context: &[Ctx], tasks: &mut Vec<Task>) -> Result<(), Want>
+fn make_tasks(
+    axis: Axis,
+    counting: bool,
+    seen: &[Seen],
+    context: &[Ctx],
+    tasks: &mut Vec<Task>,
+) -> Result<(), Want>
     requires { AreRows seen.now }
     ensures { OnOk result (tasks.new.items ≡ tasks.old.items ++ made axis counting seen.now context.now) }
 {
@@ -82,7 +94,13 @@ fn make_tasks(axis: Axis, counting: bool, seen: &[Seen], context: &[Ctx], tasks:
 }
 
 /// Gathers the hits of a task, unless the one before it covers it, and answers which one covers most.
-fn go_on(seen: &[Seen], counting: bool, before: Option<Task>, task: Task, hits: &mut Vec<Hit>) -> Result<Option<Task>, Want>
+fn go_on(
+    seen: &[Seen],
+    counting: bool,
+    before: Option<Task>,
+    task: Task,
+    hits: &mut Vec<Hit>,
+) -> Result<Option<Task>, Want>
     requires { AreRows seen.now }
     ensures { IfOk result (λ after. AllOf seen.now counting before hits.old.items → Goes seen.now counting before after task hits.old.items hits.new.items) }
 {
@@ -97,11 +115,20 @@ fn go_on(seen: &[Seen], counting: bool, before: Option<Task>, task: Task, hits: 
 
 /// Gathers the hits of all tasks. Those of one iteration come one after the other, the ones that begin
 /// first and reach farthest first, so that a task that another one covers mostly comes after it.
-fn do_tasks(seen: &[Seen], counting: bool, tasks: &mut Vec<Task>, hits: &mut Vec<Hit>) -> Result<(), Want>
+fn do_tasks(
+    seen: &[Seen],
+    counting: bool,
+    tasks: &mut Vec<Task>,
+    hits: &mut Vec<Hit>,
+) -> Result<(), Want>
     requires { AreRows seen.now }
     ensures { OnOk result (AddsAll seen.now counting tasks.old.items hits.old.items hits.new.items) }
 {
-    tasks.sort_unstable_by(|a, b| a.iter.cmp(&b.iter).then(a.first.cmp(&b.first)).then(b.end.cmp(&a.end)));
+    tasks.sort_unstable_by(|a, b| a
+        .iter
+        .cmp(&b.iter)
+        .then(a.first.cmp(&b.first))
+        .then(b.end.cmp(&a.end)));
     let mut before = None;
     for task in tasks.as_slice() {
         before = go_on(seen, counting, before, *task, hits)?;
@@ -110,7 +137,14 @@ fn do_tasks(seen: &[Seen], counting: bool, tasks: &mut Vec<Task>, hits: &mut Vec
 }
 
 /// Gathers the hits of a context on the axes whose rows stand between two numbers.
-pub(crate) fn gather(alloc: Global, axis: Axis, counting: bool, seen: &[Seen], context: &[Ctx], hits: &mut Vec<Hit>) -> Result<(), Want>
+pub(crate) fn gather(
+    alloc: Global,
+    axis: Axis,
+    counting: bool,
+    seen: &[Seen],
+    context: &[Ctx],
+    hits: &mut Vec<Hit>,
+) -> Result<(), Want>
     requires { AreRows seen.now }
     ensures { OnOk result (AddsAll seen.now counting (made axis counting seen.now context.now) hits.old.items hits.new.items) }
 {

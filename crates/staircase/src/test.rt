@@ -20,14 +20,15 @@ fn is_named(wanted: Option<TextId>, name: Option<TextId>) -> bool
     }
 }
 
-
 /// Whether a test on an axis selects this row.
 pub(crate) fn row_passes(axis: Axis, test: NodeTest, row: Row) -> bool
     ensures { result ≡ selects id_eq axis (test_of test) (kind_of_row row.kind) row.name }
 {
     match test {
         NodeTest::Any => true,
-        NodeTest::Name(name) => axis != Axis::Attribute && row.kind == Kind::Element && is_named(Some(name), row.name),
+        NodeTest::Name(name) => axis != Axis::Attribute
+            && row.kind == Kind::Element
+            && is_named(Some(name), row.name),
         NodeTest::Star => axis != Axis::Attribute && row.kind == Kind::Element,
         NodeTest::Text => row.kind == Kind::Text,
         NodeTest::Comment => row.kind == Kind::Comment,

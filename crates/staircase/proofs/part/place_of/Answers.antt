@@ -10,7 +10,7 @@ loop-low-preserved-then-seen-mid c =
     record {
       order = omega arith;
       within = c.loop-low.invariant.within;
-      split = λ r. split-up c.args.seen.now c.args.pre low high mid _ r (c.loop-low.invariant.split r) (omega arith) c.if-seen-mid.true
+      split = λ r. split-up c.args.seen.now c.args.pre low high mid _ r (c.loop-low.invariant.split r) (omega arith) c.if-seen-mid.true;
     }
 
 pub loop-low-preserved : goal.loop-low-preserved
@@ -21,5 +21,5 @@ loop-low-preserved c =
     record {
       order = omega arith;
       within = omega arith;
-      split = λ r. split-down c.args.seen.now c.args.pre low high mid _ r (c.loop-low.invariant.split r) (omega arith) c.if-seen-mid.false
+      split = λ r. split-down c.args.seen.now c.args.pre low high mid _ r (c.loop-low.invariant.split r) (omega arith) c.if-seen-mid.false;
     }

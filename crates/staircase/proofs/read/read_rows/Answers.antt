@@ -59,15 +59,15 @@ returns-in_err-enter-in-Some-clause-notes g c =
     let t : Tree TextId = g.R.Rows.tree c.args.rows.now in
     let n = subst (λ z. NextIs (g.P.Pass.wants c.loop-seen.pass t) (g.P.Pass.knows c.next.new.self t) c.loop-seen.from z (Some c.in-Some.at)) c.len-total.ensures.length (c.in-Some.ensures.next t (sym c.len-total.ensures.length) c.loop-seen.invariant.known) in
     reading-err c.args.reads.now.notes c.row.new.reads.notes c.args.site c.args.frag _ c.from_residual-in_err-enter-in-Some.result c.from_residual-in_err-enter-in-Some.ensures.0
-      (read-part t c.args.frag c.args.site c.args.axis c.args.test (g.P.Pass.wants c.args.pass.now t) (g.P.Pass.wants c.loop-seen.pass t) (g.P.Pass.knows c.loop-seen.pass t) (g.P.Pass.knows c.next.new.self t) c.loop-seen.from c.loop-seen.seen.items c.args.reads.now c.loop-seen.reads c.row.new.reads c.in-Some.at c.loop-seen.invariant n c.in_ok-row-in-Some.ensures.notes)
+    (read-part t c.args.frag c.args.site c.args.axis c.args.test (g.P.Pass.wants c.args.pass.now t) (g.P.Pass.wants c.loop-seen.pass t) (g.P.Pass.knows c.loop-seen.pass t) (g.P.Pass.knows c.next.new.self t) c.loop-seen.from c.loop-seen.seen.items c.args.reads.now c.loop-seen.reads c.row.new.reads c.in-Some.at c.loop-seen.invariant n c.in_ok-row-in-Some.ensures.notes)
 
 pub loop-seen-preserved : goal.loop-seen-preserved
 loop-seen-preserved g c =
     let t : Tree TextId = g.R.Rows.tree c.args.rows.now in
     let n = subst (λ z. NextIs (g.P.Pass.wants c.loop-seen.pass t) (g.P.Pass.knows c.next.new.self t) c.loop-seen.from z (Some c.in-Some.at)) c.len-total.ensures.length (c.in-Some.ensures.next t (sym c.len-total.ensures.length) c.loop-seen.invariant.known) in
     read-more t c.args.frag c.args.site c.args.axis c.args.test (g.P.Pass.wants c.args.pass.now t) (g.P.Pass.wants c.loop-seen.pass t) (g.P.Pass.wants c.enter.new.self t) (g.P.Pass.knows c.loop-seen.pass t) (g.P.Pass.knows c.next.new.self t) (g.P.Pass.knows c.enter.new.self t) c.loop-seen.from c.loop-seen.seen.items c.args.reads.now c.loop-seen.reads c.row.new.reads c.in-Some.at c.in_ok-row-in-Some.row c.seen_row-one.result c.push.new.self.items
-      c.loop-seen.invariant n c.in_ok-row-in-Some.ensures.row c.in_ok-row-in-Some.ensures.notes c.in_ok-row-in-Some.ensures.refuses c.seen_row-one.ensures (search rules) (λ v. c.in_ok-enter-in-Some.ensures.same t v ∙ c.in-Some.ensures.same t v)
-      (entered t c.args.axis c.args.test c.in-Some.at c.in_ok-row-in-Some.row c.seen_row-one.result c.seen_row-one.ensures c.in_ok-row-in-Some.ensures.row (g.P.Pass.knows c.next.new.self t) (g.P.Pass.knows c.enter.new.self t) (g.P.Pass.wants c.next.new.self t) (c.in_ok-enter-in-Some.ensures.knows t) n.1 (c.in-Some.ensures.same t c.in-Some.at ∙ n.2) n.3)
+    c.loop-seen.invariant n c.in_ok-row-in-Some.ensures.row c.in_ok-row-in-Some.ensures.notes c.in_ok-row-in-Some.ensures.refuses c.seen_row-one.ensures (search rules) (λ v. c.in_ok-enter-in-Some.ensures.same t v ∙ c.in-Some.ensures.same t v)
+    (entered t c.args.axis c.args.test c.in-Some.at c.in_ok-row-in-Some.row c.seen_row-one.result c.seen_row-one.ensures c.in_ok-row-in-Some.ensures.row (g.P.Pass.knows c.next.new.self t) (g.P.Pass.knows c.enter.new.self t) (g.P.Pass.wants c.next.new.self t) (c.in_ok-enter-in-Some.ensures.knows t) n.1 (c.in-Some.ensures.same t c.in-Some.at ∙ n.2) n.3)
 
 pub enter-requires-clause-pre : goal.enter-requires-clause-pre
 enter-requires-clause-pre g c =

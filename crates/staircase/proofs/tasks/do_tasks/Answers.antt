@@ -8,7 +8,7 @@ loop-task-preserved c =
     let w = c.in_ok-before.ensures c.loop-task.invariant.all in
     record {
       done = adds-step c.args.seen.now c.args.counting c.as_slice-task-items.result.now c.loop-task.task-index _ _ c.args.hits.now.items c.loop-task.hits.items c.go_on.new.hits.items c.loop-task-test.true refl c.loop-task.invariant.done w.adds;
-      all = w.all
+      all = w.all;
     }
 
 pub returns : goal.returns

@@ -16,10 +16,10 @@ pub returns-clause-found : goal.returns-clause-found
 returns-clause-found c =
     let none : Seen = record { pre = 0; last = 0; level = 0; element = false; node = false; passes = false } in
     let other : c.place_of-place.result < length c.args.seen.now → (slice_index_or c.args.seen.now c.place_of-place.result none).pre ≡ c.args.pre → ⊥ =
-          elim c.else-place-seen.branch [
-            else-place-seen-via-then-place-seen+else-seen-place w ↦ λ l e. w.if-seen-place.false e
-          | else-place-seen-via-else-place-seen w ↦ λ l e. omega (arith, w.if-place-seen.false)
-          ] in
+    elim c.else-place-seen.branch [
+      | else-place-seen-via-then-place-seen+else-seen-place w ↦ λ l e. w.if-seen-place.false e
+      | else-place-seen-via-else-place-seen w ↦ λ l e. omega (arith, w.if-place-seen.false)
+    ] in
     sym (no-row c.args.seen.now c.args.pre c.place_of-place.result none c.requires.rising (c.place_of-place.ensures.place c.requires.rising) other)
 
 pub returns-then-seen-place-clause-there : goal.returns-then-seen-place-clause-there
