@@ -3,6 +3,9 @@ ghost use Rattle.std.specs.Prelude.{◌≡◌, ◌<◌, ◌-◌, ◌^◌, length
 ghost use Rattle.xq_base.specs.declared.item.TextId.{TextId};
 ghost use Rattle.doc_table.specs.Tree.{Tree};
 ghost use Rattle.doc_table.specs.Enc.{enc, line_in, row_of};
+ghost use Rattle.doc_table.specs.Axes.{id_eq};
+ghost use Rattle.doc_table.specs.Sound.{is_sound};
+ghost use Rattle.doc_table.specs.Spine.{is_empty_id};
 ghost use Rattle.doc_table.specs.Notes.{Appends, OnlyWhere, note_of};
 
 use crate::ledger::{Ledger, Reads};
@@ -36,9 +39,11 @@ pub trait Rows {
     /// The tree whose rows these are.
     ghost tree: { Self → Tree TextId };
 
-    /// The number of rows.
+    /// The number of rows. The tree is one that the data model allows: attributes and documents are
+    /// no children, no two neighbouring children are texts, and a text that is a child isn't empty.
     fn len(&self) -> u32
-        ensures { result ≡ length (enc (tree self.now)) };
+        ensures length { result ≡ length (enc (tree self.now)) }
+        ensures sound { is_sound id_eq is_empty_id (tree self.now) ≡ true };
 
     /// Row `pre`, counted from 0, after the note of the site, the fragment and the row. It answers
     /// want of memory only where the ledger may refuse; the notes are then as before.

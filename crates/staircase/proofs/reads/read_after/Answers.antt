@@ -1,0 +1,15 @@
+use Rattle.std.proofs.Common.{◌≡◌, ◌∙◌, sym, subst, List, ℕ, map, refl, IfOk}
+use Rattle.doc_table.specs.Notes.{Reading}
+use Rattle.doc_table.proofs.Marks.{bridge}
+use Rattle.staircase.specs.Seen.{seen_of}
+use Rattle.staircase.proofs.Beginning.{after-start, after-rows}
+use Rattle.staircase.proofs.reads.read_after.Goals as goal
+
+pub read_rows-requires : goal.read_rows-requires
+read_rows-requires g c = record { knows = after-start c.args.axis (g.R.Rows.tree c.args.rows.now) c.args.context.now c.args.found.now c.as_slice.result.now (bridge (g.R.Rows.tree c.args.rows.now)) c.requires.few c.requires.ascending c.requires.nodes c.requires.axis c.requires.found (c.as_slice.ensures.value ∙ c.in_ok-owners.ensures) }
+
+pub returns-clause-notes : goal.returns-clause-notes
+returns-clause-notes g c = subst (λ z. Reading c.args.reads.now.notes c.read_rows.new.reads.notes c.args.site c.args.frag z c.read_rows.result) (after-rows c.args.axis (g.R.Rows.tree c.args.rows.now) c.args.context.now c.args.found.now c.as_slice.result.now (bridge (g.R.Rows.tree c.args.rows.now)) c.requires.nodes c.requires.axis c.requires.found (c.as_slice.ensures.value ∙ c.in_ok-owners.ensures)) c.read_rows.ensures.notes
+
+pub returns-clause-seen : goal.returns-clause-seen
+returns-clause-seen g c = subst (λ z. IfOk c.read_rows.result (λ seen. seen.items ≡ map (seen_of c.args.axis c.args.test (g.R.Rows.tree c.args.rows.now)) z)) (after-rows c.args.axis (g.R.Rows.tree c.args.rows.now) c.args.context.now c.args.found.now c.as_slice.result.now (bridge (g.R.Rows.tree c.args.rows.now)) c.requires.nodes c.requires.axis c.requires.found (c.as_slice.ensures.value ∙ c.in_ok-owners.ensures)) c.read_rows.ensures.seen

@@ -1,0 +1,12 @@
+pub mod Ahead
+pub mod Attributes
+pub mod Frames
+pub mod Hits
+pub mod Joins
+pub mod Made
+pub mod Parts
+pub mod Passes
+pub mod Samples
+pub mod Seen
+pub mod Tasks
+pub mod Tests

@@ -1,0 +1,29 @@
+//! The step of a path over one fragment, for all iterations at once: a context and a fragment's rows go
+//! in, the nodes on an axis come out.
+#![tactic(auto)]
+
+mod after;
+mod ahead;
+mod attributes;
+mod before;
+mod context;
+mod count;
+mod down;
+mod frames;
+mod hits;
+mod kids;
+mod kinds;
+mod own;
+mod part;
+mod read;
+mod reads;
+mod seen;
+mod step;
+mod task;
+mod tasks;
+mod test;
+#[cfg(test)]
+mod tests;
+
+pub use kinds::{Ctx, Tally};
+pub use step::span_step;
