@@ -1,24 +1,23 @@
 -- The attributes on an axis are all gathered.
-use Rattle.std.proofs.Common.{inl, inr, ◌⊎◌, ◌≡◌, ℕ, zero, suc, ◌+◌, ◌-◌, ◌<◌, ◌≤◌, Bool, true, false, not, ◌&&◌, ◌||◌, cond, List, [], ◌∷◌, ◌++◌, length, refl, sym, ap, ◌∙◌, subst, arith, Option, Some, None}
-use Rattle.std.specs.Prelude.{nat_eq, nat_lt, nat_le}
-use Rattle.std.proofs.lemmas.Bool.{eq-eqb, ne_eqb, eqb-true, eqb-false, le-ltb, lt-ltb, le-leb, leb-true, ltb-true, and_parts, and_from, or_left, or_right, or_cases, false≢true, true≢false}
+use Rattle.std.proofs.Common.{inl, inr, ◌⊎◌, ◌≡◌, ℕ, suc, ◌+◌, ◌-◌, ◌<◌, Bool, true, false, not, ◌&&◌, cond, List, [], length, refl, sym, ap, ◌∙◌, subst, arith, Some}
+use Rattle.std.specs.Prelude.{nat_eq}
+use Rattle.std.proofs.lemmas.Bool.{eq-eqb, ne_eqb, eqb-true, and_parts, or_cases, false≢true, true≢false}
 use Rattle.xq_base.specs.declared.item.TextId.{TextId}
 use Rattle.xq_base.specs.declared.axis.Axis.{Axis}
 use Rattle.xq_base.specs.declared.axis.Axis.TheVariants as a
 use Rattle.xq_base.specs.declared.axis.NodeTest.{NodeTest}
-use Rattle.doc_table.specs.declared.rows.Kind.TheVariants as k
 use Rattle.doc_table.specs.Tree.{Tree, AttributeNode}
 use Rattle.doc_table.specs.Paths.{Path, is_same, is_prefix, is_less, is_child, have_one_parent, nth_pair, label_at}
 use Rattle.doc_table.specs.Enc.{enc, line_in}
 use Rattle.doc_table.specs.Axes.{id_eq, on_axis, on_self, on_descendant, on_ancestor, selects, selects_label, test_of}
-use Rattle.doc_table.specs.Places.{Place, path_at, names_node, node_at, is_lone, RowsTell}
+use Rattle.doc_table.specs.Places.{path_at, names_node, node_at, is_lone, RowsTell}
 use Rattle.doc_table.specs.Sound.{is_sound}
 use Rattle.doc_table.specs.Spine.{is_empty_id}
 use Rattle.doc_table.proofs.ByRows.{same}
 use Rattle.staircase.specs.declared.hits.Hit.{Hit}
 use Rattle.staircase.specs.declared.kinds.Ctx.{Ctx}
 use Rattle.staircase.specs.declared.seen.Seen.{Seen}
-use Rattle.staircase.specs.Attributes.{all_hits, attribute_hit, attribute_part, attribute_parts, holds_self, is_attribute_axis, own_hit, row_hits}
+use Rattle.staircase.specs.Attributes.{attribute_part, attribute_parts, holds_self, is_attribute_axis}
 use Rattle.staircase.specs.Joins.{AreNodes, Reaches, place_of}
 use Rattle.staircase.specs.Made.{row_found}
 use Rattle.staircase.specs.Parts.{In}

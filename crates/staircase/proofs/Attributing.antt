@@ -1,7 +1,7 @@
 -- Attributes of rows.
-use Rattle.std.proofs.Common.{inl, inr, ◌⊎◌, ◌≡◌, ℕ, zero, suc, ◌+◌, ◌-◌, ◌<◌, ◌≤◌, Bool, true, false, not, ◌&&◌, ◌||◌, cond, List, [], ◌∷◌, ◌++◌, length, refl, sym, ap, ◌∙◌, subst, arith, Option, Some, None}
+use Rattle.std.proofs.Common.{◌≡◌, ℕ, zero, suc, ◌-◌, ◌<◌, ◌≤◌, Bool, true, false, ◌&&◌, cond, List, [], ◌∷◌, length, refl, sym, ap, ◌∙◌, subst, arith, Some, None}
 use Rattle.std.specs.Prelude.{nat_eq, nat_lt, nat_le, slice_index_or}
-use Rattle.std.proofs.lemmas.Bool.{eqb-true, leb-true, ltb-true, and_parts, false≢true, true≢false}
+use Rattle.std.proofs.lemmas.Bool.{eqb-true, leb-true, ltb-true, and_parts, false≢true}
 use Rattle.xq_base.specs.declared.item.TextId.{TextId}
 use Rattle.xq_base.specs.declared.axis.Axis.{Axis}
 use Rattle.xq_base.specs.declared.axis.NodeTest.{NodeTest}
@@ -9,15 +9,15 @@ use Rattle.doc_table.specs.declared.rows.Kind.{Kind}
 use Rattle.doc_table.specs.declared.rows.Kind.TheVariants as k
 use Rattle.doc_table.specs.Tree.{Label, OfDocument, OfElement, OfAttribute, OfText, OfComment, OfInstruction, Tree, Branch, root_of}
 use Rattle.doc_table.specs.Paths.{nth_pair}
-use Rattle.doc_table.specs.Enc.{Line, enc, line_in, line_of, row_kind, row_attributes}
+use Rattle.doc_table.specs.Enc.{Line, enc, line_in, row_kind, row_attributes}
 use Rattle.doc_table.specs.Axes.{id_eq}
 use Rattle.doc_table.specs.Places.{Place, names_node, is_lone}
 use Rattle.doc_table.specs.Sound.{is_sound}
 use Rattle.doc_table.specs.Spine.{is_empty_id}
 use Rattle.staircase.specs.declared.seen.Seen.{Seen}
 use Rattle.staircase.specs.Parts.{In}
-use Rattle.staircase.specs.Seen.{seen_of, is_element, AllSeen}
-use Rattle.staircase.proofs.Labels.{Held, held}
+use Rattle.staircase.specs.Seen.{is_element, AllSeen}
+use Rattle.staircase.proofs.Labels.{held}
 
 pub pair-at : {X : Type 0} (xs : List (X × X)) (n : ℕ) (d : X × X) → n < length xs → nth_pair xs (suc n) ≡ Some (slice_index_or xs n d)
 pair-at [] n d l = absurd (omega arith)

@@ -1,22 +1,21 @@
 -- The rows that were read, as a list.
-use Rattle.std.proofs.Common.{inl, inr, ◌⊎◌, ◌≡◌, ℕ, zero, suc, ◌+◌, ◌-◌, ◌^◌, ◌<◌, ◌≤◌, Bool, true, false, not, ◌&&◌, ◌||◌, cond, List, [], ◌∷◌, ◌++◌, length, map, refl, sym, ap, ◌∙◌, subst, arith, Option, Some, None, length-append}
-use Rattle.std.specs.Prelude.{nat_eq, nat_lt, nat_le, slice_index_or}
-use Rattle.std.proofs.lemmas.Bool.{cases_lt, cases_order, eqb-true, true≢false, false≢true}
+use Rattle.std.proofs.Common.{inl, inr, ◌⊎◌, ◌≡◌, ℕ, zero, suc, ◌+◌, ◌-◌, ◌<◌, ◌≤◌, Bool, true, false, cond, List, [], ◌∷◌, ◌++◌, length, map, refl, sym, ap, ◌∙◌, subst, arith, Some, length-append}
+use Rattle.std.specs.Prelude.{nat_eq, slice_index_or}
+use Rattle.std.proofs.lemmas.Bool.{cases_lt, eqb-true}
 use Rattle.std.proofs.lemmas.List.{append-nil, map-append}
 use Rattle.xq_base.specs.declared.item.TextId.{TextId}
 use Rattle.xq_base.specs.declared.axis.Axis.{Axis}
 use Rattle.xq_base.specs.declared.axis.NodeTest.{NodeTest}
 use Rattle.doc_table.specs.Tree.{Tree, Forest, Branch, no_more, one_more}
-use Rattle.doc_table.specs.Enc.{enc, enc_at, encs_at, line_in, no_line}
+use Rattle.doc_table.specs.Enc.{enc, enc_at, encs_at, no_line}
 use Rattle.doc_table.specs.Places.{RowsTell}
 use Rattle.doc_table.specs.Touched.{picked}
 use Rattle.staircase.specs.declared.seen.Seen.{Seen}
 use Rattle.staircase.specs.Made.{row_found}
 use Rattle.staircase.specs.Parts.{In, IsRising, IsSmall, AreRows}
 use Rattle.staircase.specs.Seen.{seen_of}
-use Rattle.staircase.proofs.Elements.{in-left, in-right, in-parts}
 use Rattle.staircase.proofs.Labels.{at-left, at-right}
-use Rattle.staircase.proofs.Parting.{same-at, in-at, place-in}
+use Rattle.staircase.proofs.Parting.{in-at, place-in}
 use Rattle.staircase.proofs.Some.{in-picked, picked-in}
 use Rattle.staircase.proofs.Tasking.{row-found_at}
 

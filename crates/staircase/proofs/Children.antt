@@ -1,12 +1,12 @@
 -- The next child, or the next row of the context.
-use Rattle.std.proofs.Common.{inl, inr, ◌⊎◌, ◌≡◌, ℕ, zero, suc, ◌+◌, ◌-◌, ◌<◌, ◌≤◌, max, min, Bool, true, false, not, ◌&&◌, ◌||◌, cond, List, [], ◌∷◌, ◌++◌, length, refl, sym, ap, ◌∙◌, subst, arith, Option, Some, None}
+use Rattle.std.proofs.Common.{inl, inr, ◌⊎◌, ◌≡◌, ℕ, suc, ◌+◌, ◌<◌, ◌≤◌, Bool, true, false, ◌||◌, cond, List, [], ◌∷◌, length, refl, sym, ap, ◌∙◌, subst, arith, Option, Some, None}
 use Rattle.std.specs.Prelude.{nat_eq, nat_lt, nat_le}
-use Rattle.std.proofs.lemmas.Bool.{eq-eqb, ne_eqb, eqb-true, eqb-false, le-ltb, lt-ltb, le-leb, lt-leb, ltb-true, ltb-false, leb-true, and_parts, and_from, or_left, or_right, false≢true, true≢false, cases_lt, cases_order}
+use Rattle.std.proofs.lemmas.Bool.{eqb-true, eqb-false, ltb-true, ltb-false, leb-true, and_parts, or_left, or_right, cases_lt}
 use Rattle.xq_base.specs.declared.item.TextId.{TextId}
 use Rattle.doc_table.specs.Enc.{Line, line_in}
 use Rattle.doc_table.specs.Places.{child, within, Kids}
 use Rattle.staircase.specs.declared.frames.Frame.{Frame}
-use Rattle.staircase.specs.Ahead.{has, any, UpFrom, first_of, is_first, without, Comes}
+use Rattle.staircase.specs.Ahead.{has, any, UpFrom, first_of, is_first, without}
 use Rattle.staircase.specs.Frames.{unfinished, advanced, with_frame, next_of, any_frame, FrameOk, FramesOk, KidsAhead}
 use Rattle.staircase.specs.Passes.{NextIs, earlier}
 use Rattle.staircase.proofs.Coming.{any-none, comes-first, comes-none, comes-later, comes-past}

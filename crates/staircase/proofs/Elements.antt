@@ -1,5 +1,5 @@
 -- Elements of lists.
-use Rattle.std.proofs.Common.{inl, inr, ◌⊎◌, ◌≡◌, ℕ, Bool, true, false, cond, List, [], ◌∷◌, ◌++◌, zero, suc, ◌<◌, length, refl, sym, arith, Contains}
+use Rattle.std.proofs.Common.{inl, inr, ◌⊎◌, ◌≡◌, ℕ, List, [], ◌∷◌, ◌++◌, zero, suc, ◌<◌, length, sym, arith, Contains}
 use Rattle.std.specs.Prelude.{slice_index_or}
 use Rattle.staircase.specs.Parts.{In}
 

@@ -1,7 +1,7 @@
 -- What a step appends is what it has.
-use Rattle.std.proofs.Common.{inl, inr, ◌⊎◌, ◌≡◌, ℕ, zero, suc, ◌+◌, ◌-◌, ◌^◌, ◌<◌, ◌≤◌, Bool, true, false, not, ◌&&◌, ◌||◌, cond, List, [], ◌∷◌, ◌++◌, length, map, refl, sym, ap, ◌∙◌, subst, arith, Option, Some, None}
-use Rattle.std.specs.Prelude.{nat_eq, nat_lt, nat_le}
-use Rattle.std.proofs.lemmas.Bool.{lt-ltb, eqb-true, eqb-false, and_parts, and_from, false≢true, true≢false}
+use Rattle.std.proofs.Common.{inl, inr, ◌≡◌, ℕ, ◌<◌, Bool, true, false, ◌||◌, cond, List, [], ◌++◌, length, refl, sym, ap, ◌∙◌, subst, arith, Some}
+use Rattle.std.specs.Prelude.{nat_eq}
+use Rattle.std.proofs.lemmas.Bool.{eqb-true, eqb-false, and_parts, and_from, false≢true}
 use Rattle.xq_base.specs.declared.item.TextId.{TextId}
 use Rattle.xq_base.specs.declared.axis.Axis.{Axis}
 use Rattle.xq_base.specs.declared.axis.Axis.TheVariants as a
@@ -10,7 +10,7 @@ use Rattle.doc_table.specs.Tree.{Tree}
 use Rattle.doc_table.specs.Enc.{enc}
 use Rattle.doc_table.specs.Paths.{label_at}
 use Rattle.doc_table.specs.Axes.{id_eq, on_axis, selects_label, test_of, steps_to}
-use Rattle.doc_table.specs.Places.{Place, names_node, node_at, is_lone, row_path, path_at, RowsTell}
+use Rattle.doc_table.specs.Places.{Place, names_node, node_at, is_lone, row_path}
 use Rattle.doc_table.specs.Touched.{touched}
 use Rattle.doc_table.proofs.Marks.{bridge}
 use Rattle.staircase.specs.declared.hits.Hit.{Hit}
@@ -18,17 +18,17 @@ use Rattle.staircase.specs.declared.kinds.Ctx.{Ctx}
 use Rattle.staircase.specs.declared.seen.Seen.{Seen}
 use Rattle.staircase.specs.Attributes.{attribute_parts}
 use Rattle.staircase.specs.Hits.{AppendsHits, ctx_of}
-use Rattle.staircase.specs.Joins.{AreNodes, Joins, Reaches, Ready, place_of, places}
+use Rattle.staircase.specs.Joins.{Joins, Reaches, Ready, place_of, places}
 use Rattle.staircase.specs.Made.{made, row_found}
 use Rattle.staircase.specs.Parts.{In, AreRows}
 use Rattle.staircase.specs.Seen.{seen_of, AllSeen}
-use Rattle.staircase.specs.Tasks.{AddsAll, Finds, lets}
+use Rattle.staircase.specs.Tasks.{AddsAll, Finds}
 use Rattle.staircase.proofs.Attained.{attributes-complete}
 use Rattle.staircase.proofs.Boards.{board, board-rows, board-found, in-board}
 use Rattle.staircase.proofs.Elements.{in-left, in-right, in-parts, in-contains, contains-in}
 use Rattle.staircase.proofs.Naming.{node-at, passes-is, row-named, row-not_named}
 use Rattle.staircase.proofs.Owning.{Reached, attributes-sound}
-use Rattle.staircase.proofs.Rowing.{Stands, Found, stands-from, stands-to, context-row, touch-own}
+use Rattle.staircase.proofs.Rowing.{Stands, stands-from, stands-to, context-row, touch-own}
 use Rattle.staircase.proofs.Tallying.{row-of, not-lone}
 use Rattle.staircase.proofs.Touching.{node-row}
 

@@ -1,11 +1,11 @@
 -- The node of a row.
-use Rattle.std.proofs.Common.{inl, inr, ◌⊎◌, ◌≡◌, ℕ, zero, suc, ◌+◌, ◌-◌, ◌<◌, ◌≤◌, Bool, true, false, not, ◌&&◌, ◌||◌, cond, List, [], ◌∷◌, ◌++◌, length, map, refl, sym, ap, ◌∙◌, subst, arith, Option, Some, None, length-append}
+use Rattle.std.proofs.Common.{inl, inr, ◌⊎◌, ◌≡◌, ℕ, zero, suc, ◌+◌, ◌-◌, ◌<◌, ◌≤◌, Bool, true, false, not, ◌&&◌, ◌||◌, List, [], ◌∷◌, ◌++◌, length, map, refl, sym, ap, ◌∙◌, subst, arith, Option, Some, length-append}
 use Rattle.std.specs.Prelude.{slice_index_or}
-use Rattle.std.proofs.lemmas.Bool.{and_parts, cases_lt, false≢true}
+use Rattle.std.proofs.lemmas.Bool.{cases_lt, false≢true}
 use Rattle.std.proofs.lemmas.List.{length-map}
 use Rattle.xq_base.specs.declared.item.TextId.{TextId}
 use Rattle.doc_table.specs.Axes.{id_eq}
-use Rattle.doc_table.specs.Tree.{Label, Tree, Forest, Branch, no_more, one_more, root_of}
+use Rattle.doc_table.specs.Tree.{Tree, Forest, Branch, no_more, one_more, root_of}
 use Rattle.doc_table.specs.Paths.{paths, paths_from, subtree, nth_tree, tree_then}
 use Rattle.doc_table.specs.Enc.{Line, line_of, enc, enc_at, encs_at, line_in, no_line}
 use Rattle.doc_table.specs.Places.{path_at}

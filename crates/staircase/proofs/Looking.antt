@@ -1,7 +1,7 @@
 -- What a node looks for between two numbers is what stands on its axis.
-use Rattle.std.proofs.Common.{inl, inr, ◌⊎◌, ◌≡◌, ℕ, zero, suc, ◌+◌, ◌-◌, ◌^◌, ◌<◌, ◌≤◌, Bool, true, false, not, ◌&&◌, ◌||◌, cond, List, length, refl, sym, ap, ◌∙◌, subst, arith, Option, Some, None}
+use Rattle.std.proofs.Common.{inl, inr, ◌≡◌, ℕ, zero, suc, ◌+◌, ◌<◌, Bool, true, false, not, ◌&&◌, ◌||◌, length, refl, sym, ap, ◌∙◌, arith, Option, Some, None}
 use Rattle.std.specs.Prelude.{nat_eq, nat_lt, nat_le}
-use Rattle.std.proofs.lemmas.Bool.{eq-eqb, ne_eqb, eqb-true, le-ltb, lt-ltb, le-leb, lt-leb, leb-true, ltb-true, cases_lt, cases_order, and_parts, and_from, false≢true}
+use Rattle.std.proofs.lemmas.Bool.{ne_eqb, le-ltb, lt-ltb, lt-leb, cases_order, false≢true}
 use Rattle.std.proofs.lemmas.Bool.Decides.{nat_tests}
 use Rattle.xq_base.specs.declared.item.TextId.{TextId}
 use Rattle.xq_base.specs.declared.axis.Axis.{Axis}
@@ -9,8 +9,8 @@ use Rattle.xq_base.specs.declared.axis.Axis.TheVariants as a
 use Rattle.xq_base.specs.declared.axis.NodeTest.{NodeTest}
 use Rattle.doc_table.specs.Tree.{Tree}
 use Rattle.doc_table.specs.Enc.{enc, line_in}
-use Rattle.doc_table.specs.Paths.{Path, is_prefix, is_less, is_same}
-use Rattle.doc_table.specs.Axes.{on_axis, on_self, on_child, on_descendant, on_following, on_preceding}
+use Rattle.doc_table.specs.Paths.{Path, is_same}
+use Rattle.doc_table.specs.Axes.{on_axis, on_following, on_preceding}
 use Rattle.doc_table.specs.Places.{path_at, row_path, RowsTell}
 use Rattle.doc_table.proofs.ByRows.{same, by-self, by-child, by-descendant, by-descendant_or_self, by-following, by-preceding}
 use Rattle.staircase.specs.declared.seen.Seen.{Seen}

@@ -1,21 +1,20 @@
 -- What the test of a row says of its node.
-use Rattle.std.proofs.Common.{inl, inr, ◌⊎◌, ◌≡◌, ℕ, zero, suc, ◌+◌, ◌-◌, ◌<◌, ◌≤◌, Bool, true, false, not, ◌&&◌, ◌||◌, cond, List, [], ◌∷◌, length, refl, sym, ap, ◌∙◌, subst, arith, Option, Some, None}
-use Rattle.std.specs.Prelude.{nat_eq, nat_lt, nat_le, is_some}
-use Rattle.std.proofs.lemmas.Bool.{eq-eqb, ne_eqb, eqb-true, le-ltb, lt-ltb, le-leb, and_parts, and_from, false≢true, true≢false}
+use Rattle.std.proofs.Common.{inl, inr, ◌≡◌, ℕ, ◌<◌, true, false, ◌&&◌, cond, length, refl, sym, ap, ◌∙◌, subst, arith}
+use Rattle.std.specs.Prelude.{nat_eq, nat_lt, nat_le}
+use Rattle.std.proofs.lemmas.Bool.{lt-ltb, le-leb, and_parts, false≢true, true≢false}
 use Rattle.xq_base.specs.declared.item.TextId.{TextId}
 use Rattle.xq_base.specs.declared.axis.Axis.{Axis}
 use Rattle.xq_base.specs.declared.axis.NodeTest.{NodeTest}
-use Rattle.doc_table.specs.Tree.{Label, OfDocument, OfElement, OfAttribute, OfText, OfComment, OfInstruction, Tree, Forest, Branch, no_more, one_more, root_of, kind_of, name_of}
-use Rattle.doc_table.specs.Paths.{Path, subtree, label_at, label_in, paths}
-use Rattle.doc_table.specs.Enc.{Line, line_of, enc, line_in, row_kind, row_name}
+use Rattle.doc_table.specs.Tree.{Label, OfDocument, OfElement, OfAttribute, OfText, OfComment, OfInstruction, Tree, Branch, no_more, one_more, root_of, kind_of, name_of}
+use Rattle.doc_table.specs.Paths.{subtree, label_at, label_in}
+use Rattle.doc_table.specs.Enc.{Line, enc, line_in, row_kind, row_name}
 use Rattle.doc_table.specs.Axes.{Test, id_eq, selects, selects_label, test_of}
 use Rattle.doc_table.specs.Places.{Place, path_at, row_path, names_node, node_at, is_lone}
-use Rattle.doc_table.specs.Sound.{is_sound, are_sound, may_be_child, has_children, sound_label, is_empty_forest}
+use Rattle.doc_table.specs.Sound.{is_sound, may_be_child}
 use Rattle.doc_table.specs.Spine.{is_empty_id}
-use Rattle.staircase.specs.declared.seen.Seen.{Seen}
 use Rattle.staircase.specs.Seen.{seen_of, is_node_row}
 use Rattle.staircase.specs.Tests.{kind_of_row}
-use Rattle.staircase.proofs.Labels.{Held, HeldChild, held}
+use Rattle.staircase.proofs.Labels.{Held, held}
 
 abbrev pub IsNoAttribute : Label TextId → Type 0
 IsNoAttribute (OfAttribute n v) = ⊥

@@ -1,19 +1,18 @@
 -- The attributes on an axis are those that are gathered.
-use Rattle.std.proofs.Common.{inl, inr, ◌⊎◌, ◌≡◌, ℕ, zero, suc, ◌+◌, ◌-◌, ◌<◌, ◌≤◌, Bool, true, false, not, ◌&&◌, ◌||◌, cond, List, [], ◌∷◌, ◌++◌, length, refl, sym, ap, ◌∙◌, subst, arith, Option, Some, None}
-use Rattle.std.specs.Prelude.{nat_eq, nat_lt, nat_le, slice_index_or}
-use Rattle.std.proofs.lemmas.Bool.{eq-eqb, ne_eqb, eqb-true, eqb-false, le-ltb, lt-ltb, le-leb, leb-true, ltb-true, and_parts, and_from, or_left, or_right, or_cases, false≢true, true≢false}
+use Rattle.std.proofs.Common.{inl, inr, ◌≡◌, ℕ, zero, suc, ◌+◌, ◌-◌, ◌<◌, Bool, true, false, ◌&&◌, cond, List, [], ◌∷◌, length, refl, sym, ap, ◌∙◌, subst, arith, Option, Some, None}
+use Rattle.std.specs.Prelude.{nat_eq, nat_lt, nat_le}
+use Rattle.std.proofs.lemmas.Bool.{eq-eqb, ne_eqb, eqb-true, eqb-false, lt-ltb, le-leb, and_parts, and_from, or_right, false≢true}
 use Rattle.xq_base.specs.declared.item.TextId.{TextId}
 use Rattle.xq_base.specs.declared.axis.Axis.{Axis}
 use Rattle.xq_base.specs.declared.axis.Axis.TheVariants as a
 use Rattle.xq_base.specs.declared.axis.NodeTest.{NodeTest}
 use Rattle.doc_table.specs.Tree.{Label, OfDocument, OfElement, OfAttribute, OfText, OfComment, OfInstruction, Tree, Branch, AttributeNode, root_of, attributes_of}
-use Rattle.doc_table.specs.Paths.{Path, is_same, is_prefix, is_less, is_child, have_one_parent, nth_pair, subtree, label_at, label_in, label_of_pair}
-use Rattle.doc_table.specs.Enc.{Line, enc, line_in, line_of, row_attributes}
+use Rattle.doc_table.specs.Paths.{Path, is_same, is_prefix, nth_pair, label_at, label_in, label_of_pair}
+use Rattle.doc_table.specs.Enc.{Line, enc, line_in, row_attributes}
 use Rattle.doc_table.specs.Axes.{id_eq, on_axis, on_self, on_attribute, on_descendant, on_ancestor, selects, selects_label, test_of, steps_to}
 use Rattle.doc_table.specs.Places.{Place, path_at, names_node, node_at, is_lone, RowsTell}
 use Rattle.doc_table.specs.Sound.{is_sound}
 use Rattle.doc_table.specs.Spine.{is_empty_id}
-use Rattle.doc_table.proofs.ByRows.{same}
 use Rattle.staircase.specs.declared.hits.Hit.{Hit}
 use Rattle.staircase.specs.declared.kinds.Ctx.{Ctx}
 use Rattle.staircase.specs.declared.seen.Seen.{Seen}
@@ -22,7 +21,6 @@ use Rattle.staircase.specs.Hits.{ctx_of}
 use Rattle.staircase.specs.Joins.{AreNodes, Reaches, place_of}
 use Rattle.staircase.specs.Made.{row_found}
 use Rattle.staircase.specs.Parts.{In}
-use Rattle.staircase.proofs.Attributing.{pair-at}
 use Rattle.staircase.proofs.Elements.{in-left, in-right, in-parts}
 use Rattle.staircase.proofs.Naming.{Node, node-at, IsNoAttribute, row-not_named}
 use Rattle.staircase.proofs.Touching.{node-row}

@@ -1,14 +1,13 @@
 -- The next rows of the passes down, and past the subtrees of a context.
-use Rattle.std.proofs.Common.{inl, inr, ◌⊎◌, ◌≡◌, ℕ, zero, suc, ◌+◌, ◌-◌, ◌<◌, ◌≤◌, max, min, Bool, true, false, not, ◌&&◌, ◌||◌, cond, List, [], ◌∷◌, ◌++◌, length, refl, sym, ap, ◌∙◌, subst, arith, Option, Some, None}
+use Rattle.std.proofs.Common.{inl, inr, ◌⊎◌, ◌≡◌, ℕ, ◌+◌, ◌<◌, ◌≤◌, max, min, Bool, true, false, ◌&&◌, ◌||◌, cond, List, [], ◌∷◌, length, refl, sym, ap, ◌∙◌, subst, arith, Option, Some, None}
 use Rattle.std.specs.Prelude.{nat_eq, nat_lt, nat_le}
-use Rattle.std.proofs.lemmas.Bool.{eq-eqb, ne_eqb, eqb-true, eqb-false, le-ltb, lt-ltb, le-leb, lt-leb, ltb-true, ltb-false, leb-true, or_parts, or_left, or_right, or_cases, false≢true, true≢false, cases_lt}
-use Rattle.std.proofs.lemmas.Bool.Decides.{nat_tests}
+use Rattle.std.proofs.lemmas.Bool.{eqb-true, le-ltb, lt-ltb, le-leb, lt-leb, or_left, or_right, false≢true, cases_lt}
 use Rattle.xq_base.specs.declared.item.TextId.{TextId}
 use Rattle.doc_table.specs.Enc.{Line, line_in}
 use Rattle.doc_table.specs.Places.{below}
 use Rattle.staircase.specs.Ahead.{has, any, UpFrom, first_of, is_first, without, Comes}
 use Rattle.staircase.specs.Passes.{NextIs, Reached, Follows, follows, earlier, nearer}
-use Rattle.staircase.proofs.Coming.{any-none, comes-first, comes-none, comes-later, comes-past, first-is}
+use Rattle.staircase.proofs.Coming.{any-none, comes-first, comes-none, comes-later, comes-past}
 
 -- no row still to come has a row before all of them below it
 none-below : (lines : List (Line TextId)) (a n : ℕ) (rest : List ℕ) → UpFrom a n rest → (w : ℕ) → w < a → any (λ c. below lines c w) rest ≡ false

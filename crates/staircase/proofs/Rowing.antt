@@ -1,23 +1,23 @@
 -- The rows on an axis are what the tasks of a context find.
-use Rattle.std.proofs.Common.{inl, inr, ◌⊎◌, ◌≡◌, ℕ, zero, suc, ◌+◌, ◌-◌, ◌^◌, ◌<◌, ◌≤◌, Bool, true, false, not, ◌&&◌, ◌||◌, cond, List, [], ◌∷◌, ◌++◌, length, map, refl, sym, ap, ◌∙◌, subst, arith, Option, Some, None}
-use Rattle.std.specs.Prelude.{nat_eq, nat_lt, nat_le}
-use Rattle.std.proofs.lemmas.Bool.{eq-eqb, ne_eqb, eqb-true, le-ltb, lt-ltb, le-leb, leb-true, ltb-true, and_parts, and_from, or_left, or_right, or_cases, false≢true, true≢false}
+use Rattle.std.proofs.Common.{inl, inr, ◌≡◌, ℕ, zero, suc, ◌+◌, ◌<◌, Bool, true, false, ◌&&◌, ◌||◌, cond, List, [], ◌∷◌, length, refl, sym, ap, ◌∙◌, subst, arith, Option, Some, None}
+use Rattle.std.specs.Prelude.{nat_eq, nat_le}
+use Rattle.std.proofs.lemmas.Bool.{eq-eqb, eqb-true, le-leb, ltb-true, and_parts, and_from, or_left, or_right, or_cases, false≢true}
 use Rattle.xq_base.specs.declared.item.TextId.{TextId}
 use Rattle.xq_base.specs.declared.axis.Axis.{Axis}
 use Rattle.xq_base.specs.declared.axis.Axis.TheVariants as a
 use Rattle.xq_base.specs.declared.axis.NodeTest.{NodeTest}
 use Rattle.doc_table.specs.Tree.{Tree}
 use Rattle.doc_table.specs.Enc.{enc, line_in}
-use Rattle.doc_table.specs.Paths.{Path, is_same, is_child, is_prefix}
+use Rattle.doc_table.specs.Paths.{is_same, is_prefix}
 use Rattle.doc_table.specs.Axes.{on_axis, on_self, on_child, on_descendant, on_following, on_preceding}
-use Rattle.doc_table.specs.Places.{Place, path_at, row_path, RowsTell}
-use Rattle.doc_table.specs.Touched.{is_context, some_context, some_place, some_below, adds_owner, touched, place_path}
-use Rattle.doc_table.proofs.ByRows.{same, by-self, by-preceding}
+use Rattle.doc_table.specs.Places.{path_at, row_path, RowsTell}
+use Rattle.doc_table.specs.Touched.{is_context, some_context, adds_owner, touched, place_path}
+use Rattle.doc_table.proofs.ByRows.{same, by-preceding}
 use Rattle.staircase.specs.declared.hits.Hit.{Hit}
 use Rattle.staircase.specs.declared.kinds.Ctx.{Ctx}
 use Rattle.staircase.specs.declared.seen.Seen.{Seen}
 use Rattle.staircase.specs.declared.task.Task.{Task}
-use Rattle.staircase.specs.Joins.{is_span, place_of, places}
+use Rattle.staircase.specs.Joins.{is_span, places}
 use Rattle.staircase.specs.Made.{task_for, task_at, listed, made_one, made, row_found, iter_for, where_row}
 use Rattle.staircase.specs.Parts.{In}
 use Rattle.staircase.specs.Seen.{seen_of}

@@ -1,12 +1,12 @@
 -- Tests of whether some row or some node passes.
-use Rattle.std.proofs.Common.{inl, inr, ◌⊎◌, ◌≡◌, ℕ, zero, suc, ◌+◌, ◌-◌, ◌<◌, ◌≤◌, Bool, true, false, not, ◌&&◌, ◌||◌, cond, List, [], ◌∷◌, ◌++◌, length, map, refl, sym, ap, ◌∙◌, subst, arith, Option, Some, None}
-use Rattle.std.specs.Prelude.{nat_eq, nat_lt, nat_le}
-use Rattle.std.proofs.lemmas.Bool.{eq-eqb, ne_eqb, eqb-true, eqb-false, le-ltb, lt-ltb, le-leb, leb-true, ltb-true, cases_lt, cases_order, and_parts, and_from, or_left, or_right, or_cases, false≢true, true≢false}
+use Rattle.std.proofs.Common.{inl, inr, ◌⊎◌, ◌≡◌, ℕ, zero, suc, ◌<◌, ◌≤◌, Bool, true, false, not, ◌&&◌, ◌||◌, cond, List, [], ◌∷◌, ◌++◌, refl, sym, ap, ◌∙◌, subst, arith, Option, Some, None}
+use Rattle.std.specs.Prelude.{nat_eq, nat_lt}
+use Rattle.std.proofs.lemmas.Bool.{eq-eqb, eqb-true, eqb-false, ltb-true, cases_lt, and_parts, and_from, or_left, or_right, or_cases, false≢true, true≢false}
 use Rattle.doc_table.specs.Places.{Place}
 use Rattle.doc_table.specs.Touched.{picked, some_below, some_place}
 use Rattle.staircase.specs.declared.kinds.Ctx.{Ctx}
 use Rattle.staircase.specs.Ahead.{has, any, UpFrom}
-use Rattle.staircase.specs.Hits.{Ascending, all_after, before}
+use Rattle.staircase.specs.Hits.{Ascending, all_after}
 use Rattle.staircase.specs.Joins.{place_of, places, is_wanted, is_after, rows_from}
 use Rattle.staircase.specs.Parts.{In}
 use Rattle.staircase.proofs.Elements.{in-left, in-right, in-parts}

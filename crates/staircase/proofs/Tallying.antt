@@ -1,38 +1,35 @@
 -- The counts of a join are those of the step.
-use Rattle.std.proofs.Common.{inl, inr, ◌⊎◌, ◌≡◌, ℕ, zero, suc, ◌+◌, ◌-◌, ◌^◌, ◌<◌, ◌≤◌, Bool, true, false, not, ◌&&◌, ◌||◌, cond, List, [], ◌∷◌, ◌++◌, length, map, refl, sym, ap, ◌∙◌, subst, arith}
-use Rattle.std.specs.Prelude.{nat_eq, nat_lt, nat_le}
-use Rattle.std.proofs.lemmas.Bool.{lt-ltb, and_parts, and_from, or_left, or_right, or_cases, false≢true, true≢false}
+use Rattle.std.proofs.Common.{inl, inr, ◌⊎◌, ◌≡◌, ℕ, suc, ◌-◌, ◌<◌, Bool, true, false, not, ◌&&◌, ◌||◌, List, [], ◌∷◌, ◌++◌, length, map, refl, sym, ap, ◌∙◌, subst, arith}
+use Rattle.std.specs.Prelude.{nat_lt}
+use Rattle.std.proofs.lemmas.Bool.{lt-ltb, and_parts, and_from, or_left, or_right, or_cases, false≢true}
 use Rattle.std.proofs.lemmas.List.{length-map}
 use Rattle.xq_base.specs.declared.item.TextId.{TextId}
 use Rattle.xq_base.specs.declared.axis.Axis.{Axis}
 use Rattle.xq_base.specs.declared.axis.NodeTest.{NodeTest}
 use Rattle.doc_table.specs.Tree.{Tree}
 use Rattle.doc_table.specs.Enc.{enc}
-use Rattle.doc_table.specs.Paths.{Path}
 use Rattle.doc_table.specs.Axes.{id_eq, on_axis}
-use Rattle.doc_table.specs.Places.{Place, names_node, node_at, is_lone, row_path, path_at, RowsTell}
+use Rattle.doc_table.specs.Places.{Place, names_node, node_at, is_lone, row_path, RowsTell}
 use Rattle.doc_table.specs.Sound.{is_sound}
 use Rattle.doc_table.specs.Spine.{is_empty_id}
-use Rattle.doc_table.specs.Touched.{picked, count, counts, is_context, is_result, touched, touched_rows, some_place}
+use Rattle.doc_table.specs.Touched.{count, counts, is_context, is_result, touched, touched_rows, some_place}
 use Rattle.doc_table.proofs.Marks.{bridge}
 use Rattle.staircase.specs.declared.hits.Hit.{Hit}
 use Rattle.staircase.specs.declared.kinds.Ctx.{Ctx}
-use Rattle.staircase.specs.declared.kinds.Tally.{Tally}
 use Rattle.staircase.specs.declared.seen.Seen.{Seen}
 use Rattle.staircase.specs.Ahead.{has, UpFrom}
-use Rattle.staircase.specs.Hits.{Ascending, all_after, AppendsHits, ctx_of}
-use Rattle.staircase.specs.Joins.{AreNodes, IsCount, Ready, own, place_of, places, row_hit, tally_of}
-use Rattle.staircase.specs.Made.{made, iter_for}
+use Rattle.staircase.specs.Hits.{Ascending, all_after, ctx_of}
+use Rattle.staircase.specs.Joins.{AreNodes, IsCount, Ready, place_of, places, row_hit, tally_of}
+use Rattle.staircase.specs.Made.{made}
 use Rattle.staircase.specs.Parts.{In}
 use Rattle.staircase.specs.Seen.{seen_of}
 use Rattle.staircase.specs.Tasks.{AddsAll, Finds, lets}
-use Rattle.staircase.proofs.Boards.{board}
 use Rattle.staircase.proofs.Coming.{has-below}
 use Rattle.staircase.proofs.Counting.{count-hits, count-parts, row_ctx}
-use Rattle.staircase.proofs.Elements.{in-left, in-right, in-parts, in-contains, contains-in}
+use Rattle.staircase.proofs.Elements.{in-contains, contains-in}
 use Rattle.staircase.proofs.Looking.{path_with}
 use Rattle.staircase.proofs.Naming.{node-at, is-node, lone-none, row-named, row-not_named}
-use Rattle.staircase.proofs.Rowing.{Stands, Found, stands-from, stands-to, touch-own, touch-axis}
+use Rattle.staircase.proofs.Rowing.{Stands, stands-from, stands-to, touch-own, touch-axis}
 use Rattle.staircase.proofs.Some.{has-in, in-has, place-in_some, some-place_in}
 use Rattle.staircase.proofs.Touching.{node-row, own-is, own-up}
 

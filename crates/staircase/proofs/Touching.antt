@@ -1,7 +1,7 @@
 -- The rows that passes want are the rows that the step touches.
-use Rattle.std.proofs.Common.{inl, inr, ◌⊎◌, ◌≡◌, ℕ, zero, suc, ◌+◌, ◌-◌, ◌^◌, ◌<◌, ◌≤◌, max, min, Bool, true, false, not, ◌&&◌, ◌||◌, cond, List, [], ◌∷◌, ◌++◌, length, map, refl, sym, ap, ◌∙◌, subst, arith, Option, Some, None}
+use Rattle.std.proofs.Common.{inl, inr, ◌⊎◌, ◌≡◌, ℕ, zero, suc, ◌+◌, ◌<◌, ◌≤◌, max, min, Bool, true, false, ◌&&◌, ◌||◌, cond, List, [], ◌∷◌, length, refl, sym, ap, ◌∙◌, arith, Some, None}
 use Rattle.std.specs.Prelude.{nat_eq, nat_lt, nat_le}
-use Rattle.std.proofs.lemmas.Bool.{eq-eqb, ne_eqb, eqb-true, eqb-false, le-ltb, lt-ltb, le-leb, lt-leb, leb-true, ltb-true, cases_lt, cases_order, and_parts, and_from, or_left, or_right, or_cases, false≢true, true≢false}
+use Rattle.std.proofs.lemmas.Bool.{ne_eqb, eqb-true, le-ltb, lt-ltb, le-leb, lt-leb, ltb-true, cases_lt, and_parts, and_from, or_left, or_right, or_cases, false≢true, true≢false}
 use Rattle.xq_base.specs.declared.item.TextId.{TextId}
 use Rattle.xq_base.specs.declared.axis.Axis.{Axis}
 use Rattle.xq_base.specs.declared.axis.Axis.TheVariants as a
@@ -9,12 +9,12 @@ use Rattle.doc_table.specs.Tree.{Tree}
 use Rattle.doc_table.specs.Enc.{enc, line_in}
 use Rattle.doc_table.specs.Axes.{on_descendant, on_following, on_child}
 use Rattle.doc_table.specs.Places.{Place, path_at, row_path, below, child, names_node, is_lone, RowsTell}
-use Rattle.doc_table.specs.Touched.{some_below, some_place, is_context, some_context, adds_owner, touched, place_path}
+use Rattle.doc_table.specs.Touched.{some_below, some_place, is_context, some_context, adds_owner, place_path}
 use Rattle.doc_table.proofs.ByRows.{by-descendant, by-following, by-child}
 use Rattle.staircase.specs.declared.kinds.Ctx.{Ctx}
 use Rattle.staircase.specs.Ahead.{has, any, UpFrom}
 use Rattle.staircase.specs.Hits.{Ascending}
-use Rattle.staircase.specs.Joins.{place_of, places, is_wanted, rows_from, own, owning, end_of, is_own, is_down, AreNodes}
+use Rattle.staircase.specs.Joins.{place_of, places, is_wanted, own, owning, end_of, AreNodes}
 use Rattle.staircase.specs.Parts.{In}
 use Rattle.staircase.specs.Passes.{follows}
 use Rattle.staircase.proofs.Coming.{has-below}

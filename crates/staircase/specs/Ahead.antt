@@ -1,5 +1,5 @@
 -- The rows of a context, and those of them that are still to come (own rule).
-use Rattle.std.specs.Prelude.{ℕ, suc, ◌≡◌, ◌<◌, ◌≤◌, Bool, true, false, ◌||◌, if◌then◌else◌, List, [], ◌∷◌, drop, Option, Some, None, nat_eq}
+use Rattle.std.specs.Prelude.{ℕ, suc, ◌≡◌, ◌<◌, ◌≤◌, Bool, false, ◌||◌, if◌then◌else◌, List, [], ◌∷◌, drop, Option, Some, None, nat_eq}
 use Rattle.staircase.specs.declared.ahead.Ahead.{Ahead}
 
 -- whether a number stands in a list

@@ -1,5 +1,5 @@
 -- The attributes on an axis (XPath 2.0, section 3.2.1.1).
-use Rattle.std.specs.Prelude.{ℕ, ◌≡◌, ◌+◌, Bool, true, false, if◌then◌else◌, List, [], ◌∷◌, ◌++◌, Option, Some, None, nat_eq}
+use Rattle.std.specs.Prelude.{ℕ, ◌+◌, Bool, true, false, if◌then◌else◌, List, [], ◌∷◌, ◌++◌, Option, Some, None, nat_eq}
 use Rattle.doc_table.specs.Paths.{nth_pair}
 use Rattle.xq_base.specs.declared.item.TextId.{TextId}
 use Rattle.xq_base.specs.declared.axis.Axis.{Axis}

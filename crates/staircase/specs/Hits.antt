@@ -1,5 +1,5 @@
 -- Hits: nodes of a fragment in iterations, ascending, each once (own rule).
-use Rattle.std.specs.Prelude.{ℕ, ◌≡◌, Bool, true, false, ◌&&◌, ◌||◌, List, [], ◌∷◌, ◌++◌, Contains, if◌then◌else◌, Option, Some, None, nat_eq, nat_lt}
+use Rattle.std.specs.Prelude.{◌≡◌, Bool, true, false, ◌&&◌, ◌||◌, List, [], ◌∷◌, ◌++◌, Contains, if◌then◌else◌, Option, Some, None, nat_eq, nat_lt}
 use Rattle.staircase.specs.declared.kinds.Ctx.{Ctx}
 use Rattle.staircase.specs.declared.hits.Hit.{Hit}
 

@@ -1,5 +1,5 @@
 -- What the nodes of a context look for (own rule).
-use Rattle.std.specs.Prelude.{ℕ, zero, suc, ◌≡◌, ◌+◌, ◌-◌, ◌^◌, ◌<◌, ◌≤◌, Bool, true, false, if◌then◌else◌, List, [], ◌∷◌, ◌++◌, Option, Some, None, nat_eq}
+use Rattle.std.specs.Prelude.{ℕ, ◌+◌, ◌-◌, ◌^◌, Bool, if◌then◌else◌, List, [], ◌∷◌, ◌++◌, Option, Some, None, nat_eq}
 use Rattle.xq_base.specs.declared.axis.Axis.{Axis}
 use Rattle.xq_base.specs.declared.axis.Axis.TheVariants as a
 use Rattle.staircase.specs.declared.kinds.Ctx.{Ctx}

@@ -1,5 +1,5 @@
 -- Two documents that tests go over.
-use Rattle.std.specs.Prelude.{ℕ, List, [], ◌∷◌}
+use Rattle.std.specs.Prelude.{ℕ, [], ◌∷◌}
 use Rattle.xq_base.specs.declared.item.TextId.{TextId}
 use Rattle.doc_table.specs.Tree.{Tree, Forest, Branch, no_more, one_more, OfDocument, OfElement, OfText}
 

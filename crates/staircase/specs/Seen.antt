@@ -1,5 +1,5 @@
 -- The rows that a join has read (own rule).
-use Rattle.std.specs.Prelude.{ℕ, ◌+◌, ◌≡◌, ◌<◌, length, Bool, true, false, not, ◌&&◌, ◌||◌, List, map, Option, Some, None, is_some}
+use Rattle.std.specs.Prelude.{ℕ, ◌+◌, ◌≡◌, ◌<◌, length, Bool, true, false, ◌&&◌, List, Option, is_some}
 use Rattle.xq_base.specs.declared.item.TextId.{TextId}
 use Rattle.xq_base.specs.declared.axis.Axis.{Axis}
 use Rattle.xq_base.specs.declared.axis.NodeTest.{NodeTest}

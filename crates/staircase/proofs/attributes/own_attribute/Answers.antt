@@ -1,4 +1,4 @@
-use Rattle.std.proofs.Common.{rules, ◌≡◌, ◌∙◌, ◌++◌, sym, ap, [], subst, OnOk}
+use Rattle.std.proofs.Common.{◌≡◌, ◌∙◌, ◌++◌, sym, ap, subst, OnOk}
 use Rattle.std.proofs.lemmas.List.{append-nil}
 use Rattle.staircase.specs.Attributes.{own_hit}
 use Rattle.staircase.proofs.Attributing.{pair-before, pair-past}

@@ -1,4 +1,3 @@
-use Rattle.std.proofs.Common.{arith}
 use Rattle.doc_table.proofs.Marks.{bridge}
 use Rattle.staircase.specs.Joins.{place_of}
 use Rattle.staircase.proofs.Attributing.{owner-element}

@@ -1,4 +1,4 @@
-use Rattle.std.proofs.Common.{rules, ◌≡◌, ◌∙◌, ◌++◌, subst, ap, map, true}
+use Rattle.std.proofs.Common.{◌∙◌, ◌++◌, subst, ap, map, true}
 use Rattle.staircase.specs.Joins.{row_hit}
 use Rattle.staircase.specs.Made.{made}
 use Rattle.staircase.specs.Tasks.{AddsAll}

@@ -1,6 +1,5 @@
-use Rattle.std.proofs.Common.{rules, ◌≡◌, ◌++◌, ◌∙◌, ◌+◌, sym, arith}
+use Rattle.std.proofs.Common.{◌∙◌, ◌+◌, sym, arith}
 use Rattle.std.specs.Prelude.{slice_index_or}
-use Rattle.staircase.specs.Hits.{spread, AppendsHits}
 use Rattle.staircase.proofs.Spread.{spread-appends, rises, order-is, spread-end}
 use Rattle.staircase.proofs.hits.append_hits.Goals as goal
 

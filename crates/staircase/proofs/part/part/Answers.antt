@@ -1,4 +1,4 @@
-use Rattle.std.proofs.Common.{arith, ◌≤◌, length}
+use Rattle.std.proofs.Common.{arith}
 use Rattle.staircase.proofs.Parting.{between-places, between-none}
 use Rattle.staircase.proofs.part.part.Goals as goal
 

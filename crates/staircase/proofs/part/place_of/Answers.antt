@@ -1,4 +1,4 @@
-use Rattle.std.proofs.Common.{arith, ◌<◌, ◌≤◌, ◌+◌, ◌-◌, ◌/◌, ◌*◌, length, ℕ}
+use Rattle.std.proofs.Common.{arith, ◌+◌, ◌-◌, ◌/◌, ℕ}
 use Rattle.staircase.proofs.Parting.{split-up, split-down}
 use Rattle.staircase.proofs.part.place_of.Goals as goal
 

@@ -1,11 +1,11 @@
-use Rattle.std.proofs.Common.{rules, ◌≡◌, ◌∙◌, ◌+◌, ◌<◌, ◌≤◌, ◌++◌, ◌∷◌, [], ℕ, Bool, Some, None, length, map, sym, ap, subst, refl, arith}
+use Rattle.std.proofs.Common.{rules, ◌≡◌, ◌∙◌, ◌+◌, ◌<◌, Some, None, length, map, sym, ap, subst, arith}
 use Rattle.xq_base.specs.declared.item.TextId.{TextId}
 use Rattle.doc_table.specs.Tree.{Tree}
-use Rattle.doc_table.specs.Enc.{enc, line_in, row_of}
-use Rattle.doc_table.specs.Notes.{AppendsAll, notes_of, note_of}
+use Rattle.doc_table.specs.Enc.{enc}
+use Rattle.doc_table.specs.Notes.{AppendsAll, notes_of}
 use Rattle.doc_table.specs.Touched.{picked}
 use Rattle.staircase.specs.Passes.{NextIs}
-use Rattle.staircase.specs.Seen.{seen_of, seen_from}
+use Rattle.staircase.specs.Seen.{seen_of}
 use Rattle.staircase.proofs.Reading.{none-left, partly, reading-err, size-fits, read-more, read-part, entered}
 use Rattle.staircase.proofs.read.read_rows.Goals as goal
 

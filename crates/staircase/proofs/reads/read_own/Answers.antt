@@ -1,4 +1,4 @@
-use Rattle.std.proofs.Common.{◌≡◌, sym, subst, List, ℕ, map, refl, IfOk}
+use Rattle.std.proofs.Common.{◌≡◌, subst, map, IfOk}
 use Rattle.doc_table.specs.Notes.{Reading}
 use Rattle.doc_table.proofs.Marks.{bridge}
 use Rattle.staircase.specs.Seen.{seen_of}

@@ -1,4 +1,4 @@
-use Rattle.std.proofs.Common.{◌≡◌, subst, false, []}
+use Rattle.std.proofs.Common.{subst, false}
 use Rattle.staircase.specs.Made.{made}
 use Rattle.staircase.specs.Tasks.{AddsAll}
 use Rattle.staircase.proofs.Joining.{joined}

@@ -1,5 +1,3 @@
-use Rattle.std.proofs.Common.{◌≡◌, ◌++◌}
-use Rattle.staircase.specs.Tasks.{found}
 use Rattle.staircase.proofs.Tasking.{adds-found, found-end}
 use Rattle.staircase.proofs.task.do_task.Goals as goal
 

@@ -1,5 +1,4 @@
-use Rattle.std.proofs.Common.{◌≡◌, ◌∙◌, sym, subst, refl, IsPermutation}
-use Rattle.staircase.specs.Tasks.{AddsAll, AllOf, Goes}
+use Rattle.std.proofs.Common.{sym, subst, refl, IsPermutation}
 use Rattle.staircase.proofs.Tasking.{adds-step, adds-whole}
 use Rattle.staircase.proofs.tasks.do_tasks.Goals as goal
 

@@ -1,5 +1,5 @@
-use Rattle.std.proofs.Common.{rules, length, ◌∙◌, ◌+◌, ap}
-use Rattle.doc_table.specs.Enc.{enc, line_in}
+use Rattle.std.proofs.Common.{◌∙◌, ◌+◌, ap}
+use Rattle.doc_table.specs.Enc.{enc}
 use Rattle.staircase.specs.Ahead.{rest_of, is_first}
 use Rattle.staircase.specs.Passes.{nearer}
 use Rattle.staircase.proofs.Passing.{after-enter, follows-as}

@@ -1,8 +1,7 @@
-use Rattle.std.proofs.Common.{arith, length, ◌≤◌, ◌<◌, ◌≡◌, ◌+◌, ◌∙◌, sym, subst, max, ℕ, true, ap}
-use Rattle.doc_table.specs.Enc.{enc, line_in}
+use Rattle.std.proofs.Common.{◌≡◌, ◌+◌, ◌∙◌, sym, true}
+use Rattle.doc_table.specs.Enc.{enc}
 use Rattle.doc_table.proofs.Marks.{bridge}
 use Rattle.staircase.specs.Ahead.{rest_of, is_first}
-use Rattle.staircase.specs.Passes.{Reached}
 use Rattle.staircase.proofs.Passing.{down-enter, reached-as}
 use Rattle.staircase.proofs.down.DownPass.enter.Goals as goal
 

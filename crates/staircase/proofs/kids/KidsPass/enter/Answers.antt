@@ -1,5 +1,5 @@
-use Rattle.std.proofs.Common.{◌≡◌, ◌∙◌, ◌+◌, sym, subst, ap, refl}
-use Rattle.doc_table.specs.Enc.{enc, line_in}
+use Rattle.std.proofs.Common.{◌∙◌, ◌+◌, ap}
+use Rattle.doc_table.specs.Enc.{enc}
 use Rattle.staircase.specs.Ahead.{rest_of}
 use Rattle.staircase.specs.declared.frames.Frame.{Frame}
 use Rattle.staircase.specs.Frames.{unfinished, advanced, with_frame}
