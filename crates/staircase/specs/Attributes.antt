@@ -23,30 +23,30 @@ abbrev pub is_attribute_axis : Axis → Bool
 is_attribute_axis a.Attribute = true
 is_attribute_axis _ = false
 
--- an attribute of a node's row, where it passes the test
+-- an attribute of a node's row, where it passes the node_test
 abbrev pub attribute_hit : Axis → NodeTest → Ctx → ℕ → TextId → List Hit
-attribute_hit axis test c attr name = if selects id_eq axis (test_of test) AttributeNode (Some name) then record { pre = c.pre; attr = attr; iter = c.iter } ∷ [] else []
+attribute_hit axis node_test c attr name = if selects id_eq axis (test_of node_test) AttributeNode (Some name) then record { pre = c.pre; attr = attr; iter = c.iter } ∷ [] else []
 
 abbrev pub own_hit : Axis → NodeTest → Ctx → Option (TextId × TextId) → List Hit
-own_hit axis test c None = []
-own_hit axis test c (Some at) = attribute_hit axis test c c.attr at.0
+own_hit axis node_test c None = []
+own_hit axis node_test c (Some at) = attribute_hit axis node_test c c.attr at.0
 
 -- all of them, the first one with this number
 abbrev pub all_hits : Axis → NodeTest → Ctx → ℕ → List (TextId × TextId) → List Hit
-all_hits axis test c k [] = []
-all_hits axis test c k (at ∷ as') = attribute_hit axis test c k at.0 ++ all_hits axis test c (k + 1) as'
+all_hits axis node_test c k [] = []
+all_hits axis node_test c k (at ∷ as') = attribute_hit axis node_test c k at.0 ++ all_hits axis node_test c (k + 1) as'
 
 abbrev pub row_hits : Axis → NodeTest → Tree TextId → Ctx → Option Seen → List Hit
-row_hits axis test t c None = []
-row_hits axis test t c (Some own) = if own.element then all_hits axis test c 1 (line_in (enc t) c.pre).attributes else []
+row_hits axis node_test t c None = []
+row_hits axis node_test t c (Some own) = if own.element then all_hits axis node_test c 1 (line_in (enc t) c.pre).attributes else []
 
 -- the attributes on the axis of a node
 abbrev pub attribute_part : Axis → NodeTest → Tree TextId → List Seen → Ctx → List Hit
-attribute_part axis test t seen c =
+attribute_part axis node_test t seen c =
     if nat_eq c.attr 0
-    then (if is_attribute_axis axis then row_hits axis test t c (row_found seen c.pre) else [])
-    else (if holds_self axis then own_hit axis test c (nth_pair (line_in (enc t) c.pre).attributes c.attr) else [])
+    then (if is_attribute_axis axis then row_hits axis node_test t c (row_found seen c.pre) else [])
+    else (if holds_self axis then own_hit axis node_test c (nth_pair (line_in (enc t) c.pre).attributes c.attr) else [])
 
 abbrev pub attribute_parts : Axis → NodeTest → Tree TextId → List Seen → List Ctx → List Hit
-attribute_parts axis test t seen [] = []
-attribute_parts axis test t seen (c ∷ cs) = attribute_part axis test t seen c ++ attribute_parts axis test t seen cs
+attribute_parts axis node_test t seen [] = []
+attribute_parts axis node_test t seen (c ∷ cs) = attribute_part axis node_test t seen c ++ attribute_parts axis node_test t seen cs
