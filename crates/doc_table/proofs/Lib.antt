@@ -11,5 +11,6 @@ pub mod Steps
 pub mod Looks
 pub mod Finds
 pub mod SpineLaws
+pub mod GivenLaws
 pub mod Subtrees
 pub mod OtherTexts
