@@ -1,10 +1,10 @@
 -- Worked documents: what the productions say of some texts.
-use Rattle.std.proofs.Common.{◌≡◌, ℕ, List, [], ◌∷◌, Option, Some, None, codes, refl, sym, ap, ◌∙◌, true, false}
+use Rattle.std.proofs.Common.{◌≡◌, ℕ, List, [], ◌∷◌, Some, None, codes, refl}
 use Rattle.std.specs.Char.{encode_utf8}
 use Rattle.std.specs.Str.{is_utf8, chars}
 use Rattle.xq_base.specs.Chars.{is_char, is_name_start, is_name_char}
-use Rattle.doc_table.specs.Tree.{Tree, Branch, OfDocument, OfElement, OfText, OfComment, OfInstruction, no_more, one_more, forest_of}
-use Rattle.doc_shred.specs.Classes.{are_chars, is_name_text, is_name_byte, is_xml, are_data, is_known_encoding, is_public_byte}
+use Rattle.doc_table.specs.Tree.{Tree, Branch, OfDocument, OfElement, OfText, OfComment, no_more, one_more, forest_of}
+use Rattle.doc_shred.specs.Classes.{are_chars, is_name_text, is_name_byte, is_xml, are_data}
 use Rattle.doc_shred.specs.Content.{Text}
 use Rattle.doc_shred.specs.Document.{IsDocument, lines_joined, without_mark, text_of}
 use Rattle.doc_shred.specs.Reading as r
