@@ -5,7 +5,11 @@ use Rattle.std.proofs.lemmas.Bool.{ltb-true, lt-ltb}
 use Rattle.xq_base.specs.declared.item.TextId.{TextId}
 use Rattle.doc_table.specs.Tree.{Tree, Branch, OfDocument, forest_of, text_in, with_texts}
 use Rattle.doc_table.specs.Spine.{Open, Spine, closed, close_in, tree_of, open_with}
+use Rattle.doc_table.specs.Places.{is_lone, names_node}
+use Rattle.doc_table.specs.Given.{tree_given}
 use Rattle.doc_table.proofs.SpineLaws.{tree-with}
+use Rattle.doc_table.proofs.OtherTexts.{lone-with}
+use Rattle.doc_table.proofs.GivenLaws.{tree_given_by_texts, root_named}
 use Rattle.doc_shred.specs.declared.refusal.ShredFault.{ShredFault}
 use Rattle.doc_shred.specs.declared.refusal.ShredFault.TheVariants.{NotWellFormed, Unsupported, TooDeep, NoMemory}
 use Rattle.doc_shred.specs.Content.{Text}
@@ -60,24 +64,39 @@ module _ (bytes text : List ℕ) (texts : Texts) (s shut : Spine TextId) (fragme
   pub supported : ¬ IsUnsupported bytes
   supported = not_unsupported bytes (subst (λ z. w.is_unsupported z ≡ false) e read.plain)
 
-  pub whole_tree : IsDocument bytes (with_texts texts fragment)
-  whole_tree = by s.nodes refl read.state.depth
-    where
-      found : (kids : List (Tree Text)) × (seen texts s ≡ document_with kids) × d.document (text_of bytes) [] kids
-      found = document_sound (text_of bytes) (seen texts s) (ap w.document (sym e) ∙ read.reads texts (later_self texts))
+  tree_in : w.Nodes → Tree Text
+  tree_in [] = Branch OfDocument (forest_of [])
+  tree_in (p ∷ ps) = tree_of p
 
-      by : (os : List (Open TextId)) → s.nodes ≡ os → length os ≡ 0 + 1 → IsDocument bytes (with_texts texts fragment)
+  -- with the texts of any pool, the fragment is the one open node that was seen with them
+  seen_tree : (final : Texts) → with_texts final fragment ≡ tree_in (seen final s)
+  unfolding tree_in
+  seen_tree final = by s.nodes refl read.state.depth
+    where
+      by : (os : List (Open TextId)) → s.nodes ≡ os → length os ≡ 0 + 1 → with_texts final fragment ≡ tree_in (seen final s)
       by [] f l = absurd (omega arith)
       by (o ∷ q ∷ os) f l = absurd (omega arith)
       by (o ∷ []) f l =
           let ended : closed s ≡ close_in s.root (o ∷ []) = ap (close_in s.root) f in
-          let given : tree_of o ≡ fragment = same_Some (tree_of o) fragment (sym (ap (λ (z : Spine TextId). z.root) (closes ∙ ended)) ∙ root) in
-          let held : open_with (text_in texts) o ∷ [] ≡ document_with found.0 = ap (map (open_with (text_in texts))) (sym f) ∙ found.1 in
-          (found.0, ap (with_texts texts) (sym given) ∙ tree-with (text_in texts) o ∙ ap tree_in held, found.2)
-        where
-          tree_in : w.Nodes → Tree Text
-          tree_in [] = Branch OfDocument (forest_of [])
-          tree_in (p ∷ ps) = tree_of p
+          let same : tree_of o ≡ fragment = same_Some (tree_of o) fragment (sym (ap (λ (z : Spine TextId). z.root) (closes ∙ ended)) ∙ root) in
+          ap (with_texts final) (sym same) ∙ tree-with (text_in final) o ∙ ap (λ os. tree_in (map (open_with (text_in final)) os)) (sym f)
+
+  pub whole_tree : IsDocument bytes (with_texts texts fragment)
+  unfolding tree_in
+  whole_tree =
+      let found : (kids : List (Tree Text)) × (seen texts s ≡ document_with kids) × d.document (text_of bytes) [] kids
+      = document_sound (text_of bytes) (seen texts s) (ap w.document (sym e) ∙ read.reads texts (later_self texts)) in
+      (found.0, seen_tree texts ∙ ap tree_in found.1, found.2)
+
+  -- every later pool gives the fragment the texts of the document
+  pub given_tree : tree_given (length texts) fragment ≡ true
+  given_tree = tree_given_by_texts texts fragment (λ final k.
+      let same : seen final s ≡ seen texts s = same_Some (seen final s) (seen texts s) (sym (read.reads final k) ∙ read.reads texts (later_self texts)) in
+      seen_tree final ∙ ap tree_in same ∙ sym (seen_tree texts))
+
+-- the document node is the node of row 0
+pub document_named : (bytes : List ℕ) (texts : Texts) (fragment : Tree TextId) → IsDocument bytes (with_texts texts fragment) → names_node fragment (record { pre = 0; attr = 0 }) ≡ true
+document_named bytes texts fragment i = root_named fragment (sym (lone-with (text_in texts) fragment) ∙ ap is_lone i.1)
 
 pub level_kept : (texts : Texts) (fragment : Tree TextId) → nat_lt level_limit (deepest fragment) ≡ false → ¬ IsTooDeep (with_texts texts fragment)
 level_kept texts fragment e h =

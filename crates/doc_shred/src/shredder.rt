@@ -1,6 +1,7 @@
 //! From the bytes of a document to its fragment.
-ghost use Rattle.std.specs.Prelude.{◌≡◌, ◌≤◌, IfOk, Err, length};
+ghost use Rattle.std.specs.Prelude.{◌≡◌, ◌≤◌, true, IfOk, Err, length};
 ghost use Rattle.doc_table.specs.Tree.{Tree, with_texts};
+ghost use Rattle.doc_table.specs.Given.{tree_given};
 ghost use Rattle.doc_shred.specs.declared.refusal.ShredFault.TheVariants.{NotWellFormed, Unsupported, TooDeep};
 ghost use Rattle.doc_shred.specs.Content.{Text};
 ghost use Rattle.doc_shred.specs.Document.{IsDocument, IsUnsupported, IsTooDeep};
@@ -32,6 +33,9 @@ pub fn shred(alloc: Global, bytes: &[u8], pool: &mut Pool) -> Result<Fragment, S
     ensures tree { IfOk result (λ fragment. IsDocument bytes.now (with_texts pool.new fragment)) }
     ensures level { IfOk result (λ fragment. ¬ IsTooDeep (with_texts pool.new fragment)) }
     ensures supported { IfOk result (λ _. ¬ IsUnsupported bytes.now) }
+
+    // The pool gave the numbers of its texts.
+    ensures given { IfOk result (λ fragment. tree_given (length pool.new) fragment ≡ true) }
 
     // Each refusal has its cause.
     ensures unsupported { result ≡ Err Unsupported → IsUnsupported bytes.now }

@@ -2,7 +2,7 @@ use Rattle.std.proofs.Common.{◌≡◌, sym, ap, ◌∙◌, arith}
 use Rattle.doc_table.specs.Tree.{with_texts}
 use Rattle.doc_shred.specs.declared.refusal.ShredFault.TheVariants.{NotWellFormed, Unsupported}
 use Rattle.doc_shred.specs.Document.{lines_joined}
-use Rattle.doc_shred.proofs.Whole.{text_fits, unsupported_cause, malformed_cause, supported, whole_tree, level_kept, level_passed}
+use Rattle.doc_shred.proofs.Whole.{text_fits, unsupported_cause, malformed_cause, supported, whole_tree, given_tree, level_kept, level_passed}
 use Rattle.doc_shred.proofs.shredder.shred.Goals as goal
 
 pub document-requires-clause-room : goal.document-requires-clause-room
@@ -37,6 +37,11 @@ pub returns-clause-tree : goal.returns-clause-tree
 returns-clause-tree c =
     let text = c.as_slice.ensures.value ∙ c.in-Ok.ensures ∙ ap lines_joined c.without_mark.ensures in
     whole_tree c.args.bytes.now c.as_slice.result.now c.document.new.pool c.document.new.builder c.close.new.self c.finish-fragment.result text c.in_default-document.ensures.read c.close.ensures c.finish-fragment.ensures
+
+pub returns-clause-given : goal.returns-clause-given
+returns-clause-given c =
+    let text = c.as_slice.ensures.value ∙ c.in-Ok.ensures ∙ ap lines_joined c.without_mark.ensures in
+    given_tree c.args.bytes.now c.as_slice.result.now c.document.new.pool c.document.new.builder c.close.new.self c.finish-fragment.result text c.in_default-document.ensures.read c.close.ensures c.finish-fragment.ensures
 
 pub returns-clause-level : goal.returns-clause-level
 returns-clause-level c = level_kept c.document.new.pool c.finish-fragment.result (sym c.is_too_deep.ensures ∙ c.if-is_too_deep.false)
