@@ -7,7 +7,7 @@ use Rattle.xq_base.specs.declared.item.TextId.{TextId}
 use Rattle.xq_base.specs.declared.axis.Axis.{Axis}
 use Rattle.xq_base.specs.declared.axis.NodeTest.{NodeTest}
 use Rattle.doc_table.specs.Tree.{Tree, Forest, Branch, no_more, one_more}
-use Rattle.doc_table.specs.Enc.{enc, enc_at, encs_at, no_line}
+use Rattle.doc_table.specs.Enc.{enc, enc_at, encs_at, line_in, no_line}
 use Rattle.doc_table.specs.Places.{RowsTell}
 use Rattle.doc_table.specs.Touched.{picked}
 use Rattle.staircase.specs.declared.seen.Seen.{Seen}
@@ -106,6 +106,8 @@ board-rows axis tested t wants b n = record {
       let deep = level-tree 0 t v r.1 in
       let small : IsSmall (seen_of axis tested t v) = record { pre = omega (arith, r.1); last = omega arith; level = omega (arith, r.1) } in
       subst IsSmall (sym r.3) small;
+  order = λ s h. (let r = in-board axis tested t wants (length (enc t)) s h in
+      subst (λ (z : Seen). z.pre ≤ z.last) (sym r.3) (let o : r.0 ≤ r.0 + (line_in (enc t) r.0).size = omega arith in o));
 }
 
 -- the row of a node that was read

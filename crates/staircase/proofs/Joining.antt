@@ -111,7 +111,7 @@ reached-hit axis test t cs rows seen first r a h name x = go (nat_eq h.attr 0) r
     go true e =
         let hit : Hit = record { pre = h.pre; attr = h.attr; iter = h.iter } in
         let f = stands-to axis test t cs false (wanted axis t cs) hit (bridge t) r.span r.few (row-of axis t cs (bridge t) r.nodes) (λ w m. refl) (row-stands axis test t cs rows seen r h (eqb-true h.attr 0 e) name x) in
-        in-left hit first (attribute_parts axis test t seen cs) (a.complete f.task (subst (λ z. In f.task (made axis false z cs)) (sym r.seen_are) f.made_in) hit (subst (λ z. Finds z false f.task hit) (sym r.seen_are) f.finds))
+        in-left hit first (attribute_parts axis test t seen cs) (a.complete hit (f.task, subst (λ z. In f.task (made axis false z cs)) (sym r.seen_are) f.made_in, subst (λ z. Finds z false f.task hit) (sym r.seen_are) f.finds))
     go false e =
         let hit : Hit = record { pre = h.pre; attr = h.attr; iter = h.iter } in
         let ne : h.attr ≡ 0 → ⊥ = eqb-false h.attr 0 e in

@@ -6,8 +6,11 @@ pub mod Children
 pub mod Coming
 pub mod Counting
 pub mod Elements
+pub mod Gaining
 pub mod Joining
+pub mod Kin
 pub mod Labels
+pub mod Linking
 pub mod Looking
 pub mod Naming
 pub mod Owning
@@ -21,3 +24,4 @@ pub mod Spread
 pub mod Tallying
 pub mod Tasking
 pub mod Touching
+pub mod Walking

@@ -89,7 +89,7 @@ counted-to axis test t cs rows seen r old new a v l e =
     let o = result-to axis t cs v e in
     let s : Stands axis test t cs true (row_hit v) = record { ctx = o.1.0; there = o.1.1; row = v; within = l; lets_in = is-node axis test t v (node-at t v r.sound o.0 l); on = o.1.2; is = refl } in
     let f = stands-to axis test t cs true (wanted axis t cs) (row_hit v) b r.span r.few (row-of axis t cs b r.nodes) (λ w m. refl) s in
-    a.complete f.task (subst (λ z. In f.task (made axis true z cs)) (sym r.seen_are) f.made_in) (row_hit v) (subst (λ z. Finds z true f.task (row_hit v)) (sym r.seen_are) f.finds)
+    a.complete (row_hit v) (f.task, subst (λ z. In f.task (made axis true z cs)) (sym r.seen_are) f.made_in, subst (λ z. Finds z true f.task (row_hit v)) (sym r.seen_are) f.finds)
 
 -- ---- counts
 

@@ -96,44 +96,6 @@ go-covered seen counting before task hits c a = record {
 pub go-done : (seen : List Seen) (counting : Bool) (before : Option Task) (task : Task) (old new : List Hit) → Adds seen counting task old new → Goes seen counting before (Some task) task old new
 go-done seen counting before task old new a = record { adds = a; all = a.complete }
 
-adds-more : (seen : List Seen) (counting : Bool) (tasks : List Task) (task : Task) (old mid new : List Hit) → AddsAll seen counting tasks old mid → Adds seen counting task mid new → AddsAll seen counting (tasks ++ task ∷ []) old new
-adds-more seen counting tasks task old mid new a b = record {
-  kept = λ h k. b.kept h (a.kept h k);
-  sound = λ h k. elim (b.sound h k) [
-    | inl m ↦ elim (a.sound h m) [ inl o ↦ inl o | inr t ↦ inr (t.0, in-left t.0 tasks (task ∷ []) t.1, t.2) ]
-    | inr f ↦ inr (task, in-right task tasks (task ∷ []) (inl refl), f)
-  ];
-  complete = λ t i h f. elim (in-parts t tasks (task ∷ []) i) [
-    | inl x ↦ b.kept h (a.complete t x h f)
-    | inr y ↦ elim y [ inl e ↦ b.complete h (subst (λ (z : Task). Finds seen counting z h) e f) | inr z ↦ absurd z ]
-  ];
-}
-
-pub adds-step : (seen : List Seen) (counting : Bool) (ts : List Task) (k : ℕ) (task : Task) (d : Task) (old mid new : List Hit) → k < length ts → task ≡ slice_index_or ts k d → AddsAll seen counting (take k ts) old mid → Adds seen counting task mid new → AddsAll seen counting (take (k + 1) ts) old new
-adds-step seen counting ts k task d old mid new l e a b =
-    let one : k + 1 ≡ suc k = omega arith in
-    let more : take (k + 1) ts ≡ take k ts ++ task ∷ [] = ap (λ z. take z ts) one ∙ take-suc ts k d l ∙ ap (λ (z : Task). take k ts ++ z ∷ []) (sym e) in
-    subst (λ z. AddsAll seen counting z old new) (sym more) (adds-more seen counting (take k ts) task old mid new a b)
-
-pub adds-none : (seen : List Seen) (counting : Bool) (ts : List Task) (old : List Hit) → AddsAll seen counting (take 0 ts) old old
-adds-none seen counting ts old = record { kept = λ h k. k; sound = λ h k. inl k; complete = λ t i h f. absurd (none t ts i) }
-  where
-    none : (t : Task) (ts : List Task) → In t (take 0 ts) → ⊥
-    none t [] i = i
-    none t (x ∷ ts) i = i
-
-pub adds-whole : (seen : List Seen) (counting : Bool) (tasks ts : List Task) (k : ℕ) (old new : List Hit) → IsPermutation tasks ts → length ts ≤ k → AddsAll seen counting (take k ts) old new → AddsAll seen counting tasks old new
-adds-whole seen counting tasks ts k old new p l a =
-    let whole : take k ts ≡ ts = take_all k ts l in
-    record {
-      kept = a.kept;
-      sound = λ h i. elim (a.sound h i) [
-        | inl o ↦ inl o
-        | inr t ↦ inr (t.0, contains-in t.0 tasks (Contains-permutation ts tasks t.0 (IsPermutation-sym tasks ts p) (in-contains t.0 ts (subst (λ z. In t.0 z) whole t.1))), t.2)
-      ];
-      complete = λ t i h f. a.complete t (subst (λ z. In t z) (sym whole) (contains-in t ts (Contains-permutation tasks ts t p (in-contains t tasks i)))) h f;
-    }
-
 -- ---- the row of a node
 
 pub row-found_at : (seen : List Seen) (k pre : ℕ) (d : Seen) → IsRising seen → k < length seen → (slice_index_or seen k d).pre ≡ pre → row_found seen pre ≡ Some (slice_index_or seen k d)

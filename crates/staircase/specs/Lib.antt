@@ -1,5 +1,6 @@
 pub mod Ahead
 pub mod Attributes
+pub mod Chains
 pub mod Frames
 pub mod Hits
 pub mod Joins

@@ -40,11 +40,19 @@ hit_in iter s = record { pre = s.pre; attr = 0; iter = iter }
 abbrev pub Finds : List Seen → Bool → Task → Hit → Type 0
 Finds seen counting task h = (s : Seen) × In s seen × (lets counting s ≡ true) × (in_task task s ≡ true) × (h ≡ hit_in task.iter s)
 
--- the hits of this task come to those that there are
-pub record Adds (seen : List Seen) (counting : Bool) (task : Task) (old new : List Hit) : Type 0 where
+-- exactly the hits that are found come to those that there are
+pub record Gains (finds : Hit → Type 0) (old new : List Hit) : Type 0 where
   pub kept : (h : Hit) → In h old → In h new
-  pub sound : (h : Hit) → In h new → In h old ⊎ Finds seen counting task h
-  pub complete : (h : Hit) → Finds seen counting task h → In h new
+  pub sound : (h : Hit) → In h new → In h old ⊎ finds h
+  pub complete : (h : Hit) → finds h → In h new
+
+-- an element of a list finds the hit
+abbrev pub AnyOf : {X : Type 0} → (X → Hit → Type 0) → List X → Hit → Type 0
+AnyOf {X} finds xs h = (x : X) × In x xs × finds x h
+
+-- the hits of this task come to those that there are
+abbrev pub Adds : List Seen → Bool → Task → List Hit → List Hit → Type 0
+Adds seen counting task old new = Gains (Finds seen counting task) old new
 
 -- the hits of a task among some rows, in their order
 abbrev pub found : Bool → Task → List Seen → List Hit
@@ -52,10 +60,8 @@ found counting task [] = []
 found counting task (s ∷ ss) = (if lets counting s && keeps task s then hit_in task.iter s ∷ [] else []) ++ found counting task ss
 
 -- the hits of these tasks come to those that there are
-pub record AddsAll (seen : List Seen) (counting : Bool) (tasks : List Task) (old new : List Hit) : Type 0 where
-  pub kept : (h : Hit) → In h old → In h new
-  pub sound : (h : Hit) → In h new → In h old ⊎ ((task : Task) × In task tasks × Finds seen counting task h)
-  pub complete : (task : Task) → In task tasks → (h : Hit) → Finds seen counting task h → In h new
+abbrev pub AddsAll : List Seen → Bool → List Task → List Hit → List Hit → Type 0
+AddsAll seen counting tasks old new = Gains (AnyOf (Finds seen counting) tasks) old new
 
 -- all that a task finds is there, where there is a task
 abbrev pub AllOf : List Seen → Bool → Option Task → List Hit → Type 0
