@@ -9,7 +9,7 @@ use Rattle.staircase.specs.declared.chain.Start.{Start}
 use Rattle.staircase.specs.declared.hits.Hit.{Hit}
 use Rattle.staircase.specs.declared.kinds.Ctx.{Ctx}
 use Rattle.staircase.specs.declared.seen.Seen.{Seen}
-use Rattle.staircase.specs.Chains.{row_at, kept_at, is_sibling, leads_on, lined, turned, ends_at, is_next, where_next, next_of, is_lone_step, onward, begins_here, start_of, one_later, place_found, started, starts_at, starts_one, all_starts, AreOrdered, AreWithin, AddsChains, AddsWalks, Below, Past, Nearest, Linked, up_to}
+use Rattle.staircase.specs.Chains.{row_at, kept_at, is_sibling, leads_on, lined, turned, ends_at, is_next, where_next, next_of, is_lone_step, onward, begins_here, start_of, one_later, place_found, started, starts_at, starts_one, all_starts, AreOrdered, AreWithin, AddsChains, AddsWalks, Leads, leads_here, leads_more, Below, Past, Nearest, Linked, up_to}
 use Rattle.staircase.specs.Made.{iter_for}
 use Rattle.staircase.specs.Parts.{In, AreRows, IsRising, Splits}
 use Rattle.staircase.proofs.Elements.{in-left, in-right, in-parts}
@@ -60,6 +60,11 @@ links-more axis rows links n o a near = record {
 -- each step leads to an earlier place
 abbrev pub Falls : (ℕ → Option ℕ) → ℕ → Type 0
 Falls step n = (k j : ℕ) → k < n → step k ≡ Some j → j < k
+
+-- one step more at the end
+pub leads-on : {step : ℕ → Option ℕ} {k m j : ℕ} → Leads step k m → step m ≡ Some j → Leads step k j
+leads-on leads_here e = leads_more e leads_here
+leads-on (leads_more f r) e = leads_more f (leads-on r e)
 
 -- what comes next, with the link
 pub record Next (axis : Axis) (rows : List Seen) (links : List (Option ℕ)) (k j : ℕ) : Type 0 where

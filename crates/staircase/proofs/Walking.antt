@@ -11,6 +11,7 @@ use Rattle.staircase.specs.Chains.{row_at, kept_at, Leads, leads_here, leads_mor
 use Rattle.staircase.specs.Parts.{In}
 use Rattle.staircase.specs.Tasks.{hit_in, lets}
 use Rattle.staircase.proofs.Elements.{in-left, in-right, in-parts}
+use Rattle.staircase.proofs.Linking.{leads-on}
 
 pub option-same : (o : Option ℕ) (i : ℕ) → option_eq nat_eq o (Some i) ≡ true → o ≡ Some i
 option-same None i e = absurd (false≢true e)
@@ -19,11 +20,6 @@ option-same (Some j) i e = ap (λ z. Some z) (eqb-true j i e)
 module _ (step : ℕ → Option ℕ) (counting : Bool) (rows : List Seen) (start : Start) where
   abbrev wanted : ℕ → Type 0
   wanted m = lets counting (row_at rows m) ≡ true
-
-  -- one step more at the end
-  pub leads-on : {k m j : ℕ} → Leads step k m → step m ≡ Some j → Leads step k j
-  leads-on leads_here e = leads_more e leads_here
-  leads-on (leads_more f r) e = leads_more f (leads-on r e)
 
   pub walk-start : (marks : List (Option ℕ)) (hits : List Hit) → Marked step counting rows marks hits → Walking step counting rows start (Some start.place) marks hits hits
   walk-start marks hits a = record {
