@@ -17,7 +17,7 @@ pub record Nests (lines : List (Line TextId)) : Type 0 where
   pub ends : (c : ℕ) → c < length lines → c + (line_in lines c).size < length lines
   pub nested : (u w : ℕ) → u < w → w ≤ u + (line_in lines u).size → w < length lines → w + (line_in lines w).size ≤ u + (line_in lines u).size
 
-child-within : (lines : List (Line TextId)) (c w : ℕ) → child lines c w ≡ true → (c ≤ w) × (w ≤ c + (line_in lines c).size) × ((line_in lines w).level ≡ (line_in lines c).level + 1)
+pub child-within : (lines : List (Line TextId)) (c w : ℕ) → child lines c w ≡ true → (c ≤ w) × (w ≤ c + (line_in lines c).size) × ((line_in lines w).level ≡ (line_in lines c).level + 1)
 child-within lines c w e =
     let p = and_parts (within lines c w) (nat_eq (line_in lines w).level ((line_in lines c).level + 1)) e in
     let q = and_parts (nat_le c w) (nat_le w (c + (line_in lines c).size)) p.0 in

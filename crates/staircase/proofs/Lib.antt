@@ -2,6 +2,7 @@ pub mod Attained
 pub mod Attributing
 pub mod Beginning
 pub mod Boards
+pub mod ByWay
 pub mod Children
 pub mod Coming
 pub mod Counting
