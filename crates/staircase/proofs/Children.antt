@@ -23,14 +23,14 @@ child-within lines c w e =
     let q = and_parts (nat_le c w) (nat_le w (c + (line_in lines c).size)) p.0 in
     (leb-true c w q.0, leb-true w (c + (line_in lines c).size) q.1, eqb-true (line_in lines w).level ((line_in lines c).level + 1) p.1)
 
-not-child : (lines : List (Line TextId)) (c w : ℕ) → (child lines c w ≡ true → ⊥) → child lines c w ≡ false
+pub not-child : (lines : List (Line TextId)) (c w : ℕ) → (child lines c w ≡ true → ⊥) → child lines c w ≡ false
 not-child lines c w f = go (child lines c w) refl
   where
     go : (b : Bool) → child lines c w ≡ b → b ≡ false
     go true e = absurd (f e)
     go false e = refl
 
-past-child : (lines : List (Line TextId)) (c w : ℕ) → c + (line_in lines c).size < w → child lines c w ≡ false
+pub past-child : (lines : List (Line TextId)) (c w : ℕ) → c + (line_in lines c).size < w → child lines c w ≡ false
 past-child lines c w l = not-child lines c w (λ e. (let p = child-within lines c w e in omega (arith, p.1)))
 
 -- no row still to come has a row before all of them as its child

@@ -13,6 +13,8 @@ mod frames;
 mod hits;
 mod kids;
 mod kinds;
+mod near;
+mod near_reads;
 mod own;
 mod part;
 mod read;
