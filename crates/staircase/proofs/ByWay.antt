@@ -1,12 +1,12 @@
 -- The rows on the way to a row, and the siblings after it, by numbers of rows.
-use Rattle.std.proofs.Common.{inl, inr, ◌≡◌, ℕ, suc, ◌+◌, ◌<◌, ◌≤◌, Bool, true, false, ◌&&◌, ◌||◌, List, [], ◌∷◌, ◌++◌, length, refl, sym, ap, ◌∙◌, subst, arith, append-nil, length-append}
+use Rattle.std.proofs.Common.{inl, inr, ◌≡◌, ℕ, ◌+◌, ◌<◌, ◌≤◌, true, false, ◌&&◌, ◌||◌, List, [], ◌∷◌, ◌++◌, length, refl, sym, ap, ◌∙◌, arith, append-nil, length-append}
 use Rattle.std.specs.Prelude.{nat_eq, nat_lt, nat_le}
 use Rattle.std.proofs.lemmas.Bool.{eq-eqb, eqb-true, lt-ltb, le-leb, leb-true, ltb-true, and_parts, and_from, or_left, or_right, or_cases, cases_order, false≢true, true≢false}
 use Rattle.std.proofs.lemmas.Bool.Decides.{nat_tests}
 use Rattle.xq_base.specs.declared.item.TextId.{TextId}
 use Rattle.xq_base.specs.declared.axis.Axis.TheVariants as a
 use Rattle.doc_table.specs.Tree.{Tree, Branch}
-use Rattle.doc_table.specs.Paths.{is_prefix, is_less, is_same, have_one_parent}
+use Rattle.doc_table.specs.Paths.{is_prefix, is_less, have_one_parent}
 use Rattle.doc_table.specs.Enc.{enc, line_in}
 use Rattle.doc_table.specs.Axes.{on_axis, on_ancestor, on_self, on_following_sibling, on_preceding_sibling}
 use Rattle.doc_table.specs.Places.{path_at, row_path, within, child, RowsTell}
@@ -15,9 +15,9 @@ use Rattle.doc_table.proofs.ByRows.{nested, same, by-self, by-ancestor}
 use Rattle.doc_table.proofs.Marks.{is_prefix-self, is_less-self}
 use Rattle.doc_table.proofs.Ways.{row-of, rest-of, prefix-append, prefix-append_more, less-last, one-parent, begins-sibling}
 use Rattle.staircase.proofs.Children.{child-within}
-use Rattle.staircase.proofs.Some.{both_ways, not_true, below-some, some-below}
+use Rattle.staircase.proofs.Some.{both_ways, below-some, some-below}
 
-within-parts : (t : Tree TextId) (u p : ℕ) → within (enc t) u p ≡ true → (u ≤ p) × (p ≤ u + (line_in (enc t) u).size)
+pub within-parts : (t : Tree TextId) (u p : ℕ) → within (enc t) u p ≡ true → (u ≤ p) × (p ≤ u + (line_in (enc t) u).size)
 within-parts t u p h = let r = and_parts (nat_le u p) (nat_le p (u + (line_in (enc t) u).size)) h in (leb-true u p r.0, leb-true p (u + (line_in (enc t) u).size) r.1)
 
 within-from : (t : Tree TextId) (u p : ℕ) → u ≤ p → p ≤ u + (line_in (enc t) u).size → within (enc t) u p ≡ true
@@ -124,10 +124,10 @@ way-child t d v p b hd hv hp h l m =
           | inl q ↦ or_left (nat_eq u.0 v) (on_preceding_sibling (row_path t u.0) (row_path t v)) (row-is u.0 u.1 (u.2 ∙ ap (λ z. path_at t d ++ z ∷ []) (sym q) ∙ sym e))
           | inr o ↦ elim o [
             | inl less ↦ or_right (nat_eq u.0 v) (on_preceding_sibling (row_path t u.0) (row_path t v))
-              (and_from (have_one_parent (path_at t u.0) (path_at t v)) (is_less (path_at t v) (path_at t u.0)) (rw (u.2, e) (one-parent (path_at t d) j i)) (rw (u.2, e) (less-last (path_at t d) i j [] [] less)))
+                (and_from (have_one_parent (path_at t u.0) (path_at t v)) (is_less (path_at t v) (path_at t u.0)) (rw (u.2, e) (one-parent (path_at t d) j i)) (rw (u.2, e) (less-last (path_at t d) i j [] [] less)))
             | inr more ↦
-              (let before : p < v = ltb-true p v (sym (b.less p v hp hv) ∙ rw (f, e) (less-last (path_at t d) j i s [] more)) in
-              absurd (omega arith))
+                (let before : p < v = ltb-true p v (sym (b.less p v hp hv) ∙ rw (f, e) (less-last (path_at t d) j i s [] more)) in
+                absurd (omega arith))
           ]
         ])
 

@@ -11,6 +11,7 @@ pub mod Joining
 pub mod Labels
 pub mod Looking
 pub mod Naming
+pub mod NearTouch
 pub mod Nearing
 pub mod Owning
 pub mod Parting

@@ -1,7 +1,7 @@
 -- The next row on the way to a row of the context, or after one of its children.
-use Rattle.std.proofs.Common.{inl, inr, ◌⊎◌, ◌≡◌, ℕ, suc, ◌+◌, ◌-◌, ◌<◌, ◌≤◌, Bool, true, false, ◌&&◌, ◌||◌, cond, List, [], ◌∷◌, length, refl, sym, ap, ◌∙◌, subst, arith, Option, Some, None}
+use Rattle.std.proofs.Common.{inl, inr, ◌≡◌, ℕ, suc, ◌+◌, ◌-◌, ◌<◌, ◌≤◌, Bool, true, false, ◌&&◌, ◌||◌, cond, List, [], ◌∷◌, length, refl, sym, ap, ◌∙◌, subst, arith, Option, Some}
 use Rattle.std.specs.Prelude.{nat_eq, nat_lt}
-use Rattle.std.proofs.lemmas.Bool.{eq-eqb, eqb-true, lt-ltb, ltb-true, ltb-false, and_parts, and_from, or_left, or_right, or_cases, cases_lt, false≢true, true≢false}
+use Rattle.std.proofs.lemmas.Bool.{eqb-true, lt-ltb, ltb-true, ltb-false, and_parts, and_from, or_left, or_right, or_cases, cases_lt, false≢true, true≢false}
 use Rattle.xq_base.specs.declared.item.TextId.{TextId}
 use Rattle.xq_base.specs.declared.axis.Axis.{Axis}
 use Rattle.xq_base.specs.declared.axis.Axis.TheVariants as a
@@ -12,7 +12,7 @@ use Rattle.doc_table.specs.Places.{row_path, child, RowsTell}
 use Rattle.doc_table.specs.Touched.{on_way, on_some_way, picked, touched, touched_rows}
 use Rattle.staircase.specs.declared.kinds.Ctx.{Ctx}
 use Rattle.staircase.specs.declared.near.Parent.{Parent}
-use Rattle.staircase.specs.Ahead.{any, UpFrom, first_of, is_first, without, Comes}
+use Rattle.staircase.specs.Ahead.{any, UpFrom, first_of, is_first, without}
 use Rattle.staircase.specs.Hits.{Ascending}
 use Rattle.staircase.specs.Joins.{AreNodes, own, places, is_near, adds_siblings}
 use Rattle.staircase.specs.Near.{is_near_row, marked, comes_before, has_wanted, parents_left, row_left, next_near, IsInside, AreParents, IsNext, is_passed, NearAt, GoesOn, NearAhead}
@@ -20,7 +20,7 @@ use Rattle.staircase.specs.Passes.{NextIs}
 use Rattle.staircase.proofs.Beginning.{own-start, tree-nests}
 use Rattle.staircase.proofs.ByWay.{child-after, root-holds, way-within, way-holds, way-child, sibling-later, sibling-child, sibling-root}
 use Rattle.staircase.proofs.Children.{child-within, not-child, past-child}
-use Rattle.staircase.proofs.Coming.{any-none, up-later, comes-past}
+use Rattle.staircase.proofs.Coming.{any-none, comes-past}
 use Rattle.staircase.proofs.Picks.{picked-like}
 use Rattle.staircase.proofs.Some.{not_true}
 use Rattle.staircase.proofs.Touching.{own-up, any-context}
