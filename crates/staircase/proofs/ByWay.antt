@@ -12,16 +12,11 @@ use Rattle.doc_table.specs.Axes.{on_axis, on_ancestor, on_self, on_following_sib
 use Rattle.doc_table.specs.Places.{path_at, row_path, within, child, RowsTell}
 use Rattle.doc_table.specs.Touched.{by_way, on_way}
 use Rattle.doc_table.proofs.ByRows.{nested, same, by-self, by-ancestor}
+use Rattle.doc_table.proofs.Kids.{within-parts, within-from}
 use Rattle.doc_table.proofs.Marks.{is_prefix-self, is_less-self}
 use Rattle.doc_table.proofs.Ways.{row-of, rest-of, prefix-append, prefix-append_more, less-last, one-parent, begins-sibling}
 use Rattle.staircase.proofs.Children.{child-within}
 use Rattle.staircase.proofs.Some.{both_ways, below-some, some-below}
-
-pub within-parts : (t : Tree TextId) (u p : ℕ) → within (enc t) u p ≡ true → (u ≤ p) × (p ≤ u + (line_in (enc t) u).size)
-within-parts t u p h = let r = and_parts (nat_le u p) (nat_le p (u + (line_in (enc t) u).size)) h in (leb-true u p r.0, leb-true p (u + (line_in (enc t) u).size) r.1)
-
-within-from : (t : Tree TextId) (u p : ℕ) → u ≤ p → p ≤ u + (line_in (enc t) u).size → within (enc t) u p ≡ true
-within-from t u p h k = and_from (nat_le u p) (nat_le p (u + (line_in (enc t) u).size)) (le-leb u p h) (le-leb p (u + (line_in (enc t) u).size) k)
 
 -- ---- paths of a row and of its child
 

@@ -14,7 +14,8 @@ use Rattle.doc_table.specs.Touched.{is_context, adds_owner, on_way, on_some_way,
 use Rattle.staircase.specs.declared.kinds.Ctx.{Ctx}
 use Rattle.staircase.specs.Joins.{is_near, places}
 use Rattle.staircase.specs.Parts.{In}
-use Rattle.staircase.proofs.ByWay.{within-parts, way-holds, way-before}
+use Rattle.doc_table.proofs.Kids.{within-parts}
+use Rattle.staircase.proofs.ByWay.{way-holds, way-before}
 use Rattle.staircase.proofs.Children.{child-within}
 use Rattle.staircase.proofs.Looking.{path_with}
 use Rattle.staircase.proofs.Rowing.{context-row, some-row_of}
