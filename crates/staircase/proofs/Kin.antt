@@ -2,17 +2,18 @@
 use Rattle.std.proofs.Common.{inl, inr, ◌⊎◌, ◌≡◌, ℕ, zero, suc, ◌+◌, ◌<◌, ◌≤◌, Bool, true, false, ◌&&◌, ◌||◌, List, [], ◌∷◌, ◌++◌, length, refl, sym, ap, ◌∙◌, subst, arith, length-append}
 use Rattle.std.specs.Prelude.{nat_eq, nat_lt, nat_le}
 use Rattle.std.proofs.lemmas.Bool.{eq-eqb, eqb-true, le-leb, leb-true, lt-ltb, ltb-true, cases_order, cases_lt, and_parts, and_from, false≢true, true≢false}
-use Rattle.std.proofs.lemmas.Bool.Decides.{nat_tests}
 use Rattle.xq_base.specs.declared.item.TextId.{TextId}
 use Rattle.doc_table.specs.Tree.{Tree}
 use Rattle.doc_table.specs.Enc.{enc, line_in}
 use Rattle.doc_table.specs.Paths.{is_prefix, is_less, have_one_parent}
-use Rattle.doc_table.specs.Axes.{on_ancestor, on_self, on_preceding_sibling, on_following_sibling}
+use Rattle.doc_table.specs.Axes.{on_preceding_sibling, on_following_sibling}
 use Rattle.doc_table.specs.Places.{path_at, row_path, within, child}
 use Rattle.doc_table.proofs.Marks.{bridge}
-use Rattle.doc_table.proofs.ByRows.{nested, by-ancestor, by-self}
+use Rattle.doc_table.proofs.ByRows.{nested}
 use Rattle.doc_table.proofs.Kids.{level-deeper, children_stand}
-use Rattle.doc_table.proofs.Ways.{row-of, rest-of, snoc-or-nil, prefix-append, one-parent}
+use Rattle.doc_table.proofs.Ways.{row-of, snoc-or-nil, prefix-append, one-parent}
+use Rattle.staircase.proofs.ByWay.{child-after, child-path, path-child}
+use Rattle.staircase.proofs.Children.{child-within}
 
 -- row v is a child of row p
 pub record IsChild (t : Tree TextId) (p v : ℕ) : Type 0 where
@@ -23,20 +24,7 @@ pub record IsChild (t : Tree TextId) (p v : ℕ) : Type 0 where
   pub level : (line_in (enc t) v).level ≡ (line_in (enc t) p).level + 1
 
 pub child-from : (t : Tree TextId) (p v : ℕ) → p < length (enc t) → v < length (enc t) → child (enc t) p v ≡ true → IsChild t p v
-child-from t p v lp lv e =
-    let a = and_parts (within (enc t) p v) (nat_eq (line_in (enc t) v).level ((line_in (enc t) p).level + 1)) e in
-    let w = and_parts (nat_le p v) (nat_le v (p + (line_in (enc t) p).size)) a.0 in
-    let level : (line_in (enc t) v).level ≡ (line_in (enc t) p).level + 1 = eqb-true (line_in (enc t) v).level ((line_in (enc t) p).level + 1) a.1 in
-    record {
-      parent = lp;
-      row = lv;
-      after = elim (cases_order p v) [
-        | inl q ↦ absurd (let s : (line_in (enc t) p).level ≡ (line_in (enc t) v).level = ap (λ z. (line_in (enc t) z).level) q in omega arith)
-        | inr o ↦ elim o [ inl l ↦ l | inr g ↦ absurd (omega (arith, leb-true p v w.0)) ]
-      ];
-      inside = leb-true v (p + (line_in (enc t) p).size) w.1;
-      level = level;
-    }
+child-from t p v lp lv e = (let w = child-within (enc t) p v e in record { parent = lp; row = lv; after = child-after t p v e; inside = w.1; level = w.2 })
 
 pub child-to : (t : Tree TextId) (p v : ℕ) → IsChild t p v → child (enc t) p v ≡ true
 child-to t p v c = and_from (within (enc t) p v) (nat_eq (line_in (enc t) v).level ((line_in (enc t) p).level + 1)) (and_from (nat_le p v) (nat_le v (p + (line_in (enc t) p).size)) (le-leb p v (omega (arith, c.after))) (le-leb v (p + (line_in (enc t) p).size) c.inside)) (eq-eqb (line_in (enc t) v).level ((line_in (enc t) p).level + 1) c.level)
@@ -48,23 +36,10 @@ one-row t p q v a b = (children_stand t).one p q v a.parent b.parent a.row (chil
 
 -- a path with one step more
 pub step-child : (t : Tree TextId) (p v i : ℕ) → p < length (enc t) → v < length (enc t) → path_at t v ≡ path_at t p ++ i ∷ [] → IsChild t p v
-step-child t p v i lp lv e =
-    let b = bridge t in
-    child-from t p v lp lv (and_from (within (enc t) p v) (nat_eq (line_in (enc t) v).level ((line_in (enc t) p).level + 1))
-    (sym (b.prefix p v lp lv) ∙ ap (is_prefix (path_at t p)) e ∙ prefix-append (path_at t p) (i ∷ []))
-    (eq-eqb (line_in (enc t) v).level ((line_in (enc t) p).level + 1) (omega (arith, b.level v lv, b.level p lp, ap length e, length-append (path_at t p) (i ∷ [])))))
+step-child t p v i lp lv e = child-from t p v lp lv (child-path t p v i (bridge t) lp lv e)
 
 pub child-step : (t : Tree TextId) (p v : ℕ) → IsChild t p v → (i : ℕ) × (path_at t v ≡ path_at t p ++ i ∷ [])
-child-step t p v c =
-    let b = bridge t in
-    let pre : is_prefix (path_at t p) (path_at t v) ≡ true = b.prefix p v c.parent c.row ∙ (and_parts (within (enc t) p v) (nat_eq (line_in (enc t) v).level ((line_in (enc t) p).level + 1)) (child-to t p v c)).0 in
-    let r = rest-of (path_at t p) (path_at t v) pre in
-    go r.0 r.1
-  where
-    go : (r : List ℕ) → path_at t v ≡ path_at t p ++ r → (i : ℕ) × (path_at t v ≡ path_at t p ++ i ∷ [])
-    go [] e = absurd (omega (arith, c.level, (bridge t).level v c.row, (bridge t).level p c.parent, ap length e, length-append (path_at t p) []))
-    go (i ∷ []) e = (i, e)
-    go (i ∷ j ∷ r) e = absurd (omega (arith, c.level, (bridge t).level v c.row, (bridge t).level p c.parent, ap length e, length-append (path_at t p) (i ∷ j ∷ r)))
+child-step t p v c = path-child t p v (bridge t) c.parent c.row (child-to t p v c)
 
 -- a row that isn't the first one has a parent
 pub parent-of : (t : Tree TextId) (v l : ℕ) → v < length (enc t) → (line_in (enc t) v).level ≡ suc l → (p : ℕ) × IsChild t p v
@@ -180,11 +155,3 @@ by-next t p low high G one join (suc f) u v m l a b c d =
       | inl k ↦ join u x v a b k c n.is_child refl (by-next t p low high G one join f x v (omega arith) k (omega arith) b n.is_child d)
       | inr g ↦ (let q : x ≡ v = omega (arith, n.no_later) in one u v a b c d (sym q))
     ]
-
--- ---- ancestors
-
-holds-is : (c s v : ℕ) → ((nat_lt v c && nat_le c (v + s)) || nat_eq c v) ≡ (nat_le v c && nat_le c (v + s))
-holds-is c s v = grind (arith, nat_tests)
-
-pub by-ancestor_or_self : (t : Tree TextId) (c v : ℕ) → c < length (enc t) → v < length (enc t) → (on_ancestor (row_path t c) (row_path t v) || on_self (row_path t c) (row_path t v)) ≡ within (enc t) v c
-by-ancestor_or_self t c v h k = rw (by-ancestor t c v (bridge t) h k, by-self t c v (bridge t) h k) (holds-is c (line_in (enc t) v).size v)

@@ -2,6 +2,7 @@ pub mod Attained
 pub mod Attributing
 pub mod Beginning
 pub mod Boards
+pub mod ByWay
 pub mod Chaining
 pub mod Children
 pub mod Coming
@@ -14,6 +15,8 @@ pub mod Labels
 pub mod Linking
 pub mod Looking
 pub mod Naming
+pub mod NearTouch
+pub mod Nearing
 pub mod Owning
 pub mod Parting
 pub mod Passing

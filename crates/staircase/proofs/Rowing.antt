@@ -95,7 +95,7 @@ looks-some (Some task) s e = (task, refl, e)
 pub context-row : (axis : Axis) (cs : List Ctx) (c : Ctx) → In c cs → (nat_eq c.attr 0 || adds_owner axis) ≡ true → is_context axis (places cs) c.pre ≡ true
 context-row axis cs c i e = place-in_some (λ p. nat_eq p.pre c.pre && (nat_eq p.attr 0 || adds_owner axis)) c cs i (and_from (nat_eq c.pre c.pre) (nat_eq c.attr 0 || adds_owner axis) (eq-eqb c.pre c.pre refl) e)
 
-some-row_of : (axis : Axis) (t : Tree TextId) (cs : List Ctx) (c : ℕ) (p : ℕ → Bool) → c < length (enc t) → is_context axis (places cs) c ≡ true → p c ≡ true → some_context axis t (places cs) p ≡ true
+pub some-row_of : (axis : Axis) (t : Tree TextId) (cs : List Ctx) (c : ℕ) (p : ℕ → Bool) → c < length (enc t) → is_context axis (places cs) c ≡ true → p c ≡ true → some_context axis t (places cs) p ≡ true
 some-row_of axis t cs c p l i e = below-some (λ c. is_context axis (places cs) c && p c) (length (enc t)) c l (and_from (is_context axis (places cs) c) (p c) i e)
 
 pub touch-own : (axis : Axis) (t : Tree TextId) (cs : List Ctx) (c : ℕ) → is_span axis ≡ true → c < length (enc t) → is_context axis (places cs) c ≡ true → touched axis t (places cs) c ≡ true

@@ -121,3 +121,17 @@ abbrev pub is_down : Axis → Bool
 is_down a.Descendant = true
 is_down a.DescendantOrSelf = true
 is_down _ = false
+
+-- the axes that touch the rows on the way to those of the context
+abbrev pub is_near : Axis → Bool
+is_near a.Parent = true
+is_near a.Ancestor = true
+is_near a.AncestorOrSelf = true
+is_near a.PrecedingSibling = true
+is_near a.FollowingSibling = true
+is_near _ = false
+
+-- the axis that touches the siblings after the rows of the context as well
+abbrev pub adds_siblings : Axis → Bool
+adds_siblings a.FollowingSibling = true
+adds_siblings _ = false

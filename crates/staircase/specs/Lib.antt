@@ -5,6 +5,7 @@ pub mod Frames
 pub mod Hits
 pub mod Joins
 pub mod Made
+pub mod Near
 pub mod Parts
 pub mod Passes
 pub mod Samples

@@ -16,6 +16,8 @@ mod hits;
 mod kids;
 mod kinds;
 mod links;
+mod near;
+mod near_reads;
 mod own;
 mod part;
 mod read;
