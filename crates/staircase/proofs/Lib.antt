@@ -25,6 +25,7 @@ pub mod Reading
 pub mod Rowing
 pub mod Some
 pub mod Spread
+pub mod Standing
 pub mod Tallying
 pub mod Tasking
 pub mod Touching
