@@ -9,6 +9,7 @@ pub mod Coming
 pub mod Counting
 pub mod Elements
 pub mod Gaining
+pub mod Gathering
 pub mod Joining
 pub mod Kin
 pub mod Labels

@@ -15,7 +15,7 @@ use Rattle.doc_table.specs.Places.{path_at, row_path, RowsTell}
 use Rattle.doc_table.proofs.ByRows.{same, by-self, by-child, by-descendant, by-descendant_or_self, by-following, by-preceding}
 use Rattle.staircase.specs.declared.seen.Seen.{Seen}
 use Rattle.staircase.specs.declared.task.Task.{Task}
-use Rattle.staircase.specs.Joins.{is_span}
+use Rattle.staircase.specs.Joins.{is_span, path_with}
 use Rattle.staircase.specs.Made.{task_for}
 use Rattle.staircase.specs.Tasks.{in_task}
 use Rattle.staircase.specs.Seen.{seen_of}
@@ -23,9 +23,6 @@ use Rattle.staircase.specs.Seen.{seen_of}
 abbrev pub looks : Option Task → Seen → Bool
 looks None s = false
 looks (Some task) s = in_task task s
-
-abbrev pub path_with : Tree TextId → ℕ → ℕ → Path
-path_with t c k = record { steps = path_at t c; attr = k }
 
 self-is : (c v : ℕ) → ((nat_le c v && nat_lt v (c + 1)) && true) ≡ nat_eq c v
 self-is c v = grind (arith, nat_tests)

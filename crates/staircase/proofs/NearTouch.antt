@@ -12,12 +12,11 @@ use Rattle.doc_table.specs.Axes.{on_axis, on_ancestor, on_self, on_following_sib
 use Rattle.doc_table.specs.Places.{path_at, row_path, child, RowsTell}
 use Rattle.doc_table.specs.Touched.{is_context, adds_owner, on_way, on_some_way, touched}
 use Rattle.staircase.specs.declared.kinds.Ctx.{Ctx}
-use Rattle.staircase.specs.Joins.{is_near, places}
+use Rattle.staircase.specs.Joins.{is_near, path_with, places}
 use Rattle.staircase.specs.Parts.{In}
 use Rattle.doc_table.proofs.Kids.{within-parts}
 use Rattle.staircase.proofs.ByWay.{way-holds, way-before}
 use Rattle.staircase.proofs.Children.{child-within}
-use Rattle.staircase.proofs.Looking.{path_with}
 use Rattle.staircase.proofs.Rowing.{context-row, some-row_of}
 
 -- a row on the way to a row of the context

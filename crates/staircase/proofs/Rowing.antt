@@ -17,14 +17,14 @@ use Rattle.staircase.specs.declared.hits.Hit.{Hit}
 use Rattle.staircase.specs.declared.kinds.Ctx.{Ctx}
 use Rattle.staircase.specs.declared.seen.Seen.{Seen}
 use Rattle.staircase.specs.declared.task.Task.{Task}
-use Rattle.staircase.specs.Joins.{is_span, places}
+use Rattle.staircase.specs.Joins.{Stands, is_span, path_with, places}
 use Rattle.staircase.specs.Made.{task_for, task_at, listed, made_one, made, row_found, iter_for, where_row}
 use Rattle.staircase.specs.Parts.{In}
 use Rattle.staircase.specs.Seen.{seen_of}
 use Rattle.staircase.specs.Tasks.{Finds, in_task, lets, hit_in}
 use Rattle.staircase.proofs.Boards.{board, board-in, in-board, board-found, found-board}
 use Rattle.staircase.proofs.Elements.{in-left, in-right, in-parts}
-use Rattle.staircase.proofs.Looking.{looks, looks-is, path_with, before-attribute}
+use Rattle.staircase.proofs.Looking.{looks, looks-is, before-attribute}
 use Rattle.staircase.proofs.Some.{place-in_some, below-some}
 
 -- ---- the tasks of a context
@@ -154,16 +154,6 @@ touch-axis a.FollowingSibling t cs c v b s i l m e = absurd (false≢true s)
 touch-axis a.PrecedingSibling t cs c v b s i l m e = absurd (false≢true s)
 
 -- ---- what the tasks find
-
--- row v on the axis of a node of the context
-pub record Stands (axis : Axis) (tested : NodeTest) (t : Tree TextId) (cs : List Ctx) (counting : Bool) (h : Hit) : Type 0 where
-  pub ctx : Ctx
-  pub there : In ctx cs
-  pub row : ℕ
-  pub within : row < length (enc t)
-  pub lets_in : lets counting (seen_of axis tested t row) ≡ true
-  pub on : on_axis axis (path_with t ctx.pre ctx.attr) (row_path t row) ≡ true
-  pub is : h ≡ record { pre = row; attr = 0; iter = iter_for counting ctx }
 
 pub stands-from : (axis : Axis) (tested : NodeTest) (t : Tree TextId) (cs : List Ctx) (counting : Bool) (wants : ℕ → Bool) (h : Hit) (task : Task) → RowsTell t → is_span axis ≡ true → length (enc t) < 4294967296 → ((c : Ctx) → In c cs → c.pre < length (enc t))
     → In task (made axis counting (board axis tested t wants (length (enc t))) cs) → Finds (board axis tested t wants (length (enc t))) counting task h → Stands axis tested t cs counting h

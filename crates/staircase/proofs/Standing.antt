@@ -15,12 +15,11 @@ use Rattle.doc_table.proofs.ByRows.{same, by-ancestor, by-child}
 use Rattle.doc_table.proofs.Marks.{bridge}
 use Rattle.staircase.specs.declared.seen.Seen.{Seen}
 use Rattle.staircase.specs.Chains.{is_sibling, leads_on, is_next, row_at, kept_at, start_of, next_of, onward, Leads, leads_here, leads_more, Linked}
-use Rattle.staircase.specs.Joins.{is_near}
+use Rattle.staircase.specs.Joins.{is_near, path_with}
 use Rattle.staircase.proofs.ByWay.{by-ancestor_or_self}
 use Rattle.staircase.proofs.Chaining.{pre_at, Laid, Over, over-before, over-leads, leads-over, next-over, leads-past, parent-next, next-parent, leads-siblings, same-place, IsSiblingAxis, siblings-lead, siblings-lead_on}
 use Rattle.staircase.proofs.Kin.{IsChild, Twins, child-from, child-to, twins-turned, before-from, before-to, after-from, after-to}
 use Rattle.staircase.proofs.Linking.{next-falls}
-use Rattle.staircase.proofs.Looking.{path_with}
 
 no_zero : (k : ℕ) → nat_eq (suc k) 0 ≡ false
 no_zero k = ne_eqb (suc k) 0 (λ e. omega arith)
@@ -146,12 +145,12 @@ module _ (tested : NodeTest) (t : Tree TextId) (rows : List Seen) (links : List 
 
   -- ---- what is on the axis is on the chain
 
-  -- the siblings of a row on the axis were read
-  abbrev pub ReadBeside : Axis → ℕ → Type 0
-  ReadBeside axis c = (x : ℕ) → Twins t c x → on_axis axis (row_path t c) (row_path t x) ≡ true → (k : ℕ) × (k < length rows) × (pre_at rows k ≡ x)
+  -- the rows on the axis of a row, or of an attribute of it, were read
+  abbrev pub WereRead : Axis → ℕ → ℕ → Type 0
+  WereRead axis attr c = (x : ℕ) → x < length (enc t) → on_axis axis (path_with t c attr) (row_path t x) ≡ true → (k : ℕ) × (k < length rows) × (pre_at rows k ≡ x)
 
   abbrev On : Axis → Type 0
-  On axis = (attr k m : ℕ) → k < length rows → m < length rows → ReadBeside axis (pre_at rows k) → on_axis axis (path_with t (pre_at rows k) attr) (row_path t (pre_at rows m)) ≡ true → Begun axis rows links attr k m
+  On axis = (attr k m : ℕ) → k < length rows → m < length rows → WereRead axis attr (pre_at rows k) → on_axis axis (path_with t (pre_at rows k) attr) (row_path t (pre_at rows m)) ≡ true → Begun axis rows links attr k m
 
   on-parent : Laid a.Parent tested t rows → Linked a.Parent rows links (length rows) → On a.Parent
   on-parent d linked zero k m l h b e =
@@ -196,7 +195,7 @@ module _ (tested : NodeTest) (t : Tree TextId) (rows : List Seen) (links : List 
       let mk : m < k = over-before a.PrecedingSibling tested t rows links d linked refl m k h l x.1 in
       let y = leads-split (siblings-lead a.PrecedingSibling tested t rows links d linked (refl, λ s r. refl) refl x.0.0 m k h l x.0.2 x.0.1 x.1
       (λ v lo hi c. elim (cases_lt v (pre_at rows k)) [
-        | inl less ↦ b v (x.0.0, x.0.1, c) (before-to t (pre_at rows k) v (x.0.0, x.0.1, c) less)
+        | inl less ↦ b v c.row (before-to t (pre_at rows k) v (x.0.0, x.0.1, c) less)
         | inr more ↦ (k, l, omega arith)
       ])) mk in
       record { start = y.0; begins = y.1; leads = y.2 }
@@ -211,13 +210,13 @@ module _ (tested : NodeTest) (t : Tree TextId) (rows : List Seen) (links : List 
       ] in
       let y = leads-split (siblings-lead_on a.FollowingSibling tested t rows links d linked (refl, λ s r. refl) refl x.0.0 k m l h x.0.1 x.0.2 x.1
       (λ v lo hi c. elim (cases_lt (pre_at rows k) v) [
-        | inl more ↦ b v (x.0.0, x.0.1, c) (after-to t (pre_at rows k) v (x.0.0, x.0.1, c) more)
+        | inl more ↦ b v c.row (after-to t (pre_at rows k) v (x.0.0, x.0.1, c) more)
         | inr less ↦ (k, l, omega arith)
       ])) mk in
       record { start = y.0; begins = y.1; leads = y.2 }
   on-following d linked (suc i) k m l h b e = absurd (false≢true (rw (no_zero i) at e))
 
-  pub on-chain : (axis : Axis) → is_near axis ≡ true → Laid axis tested t rows → Linked axis rows links (length rows) → (attr k m : ℕ) → k < length rows → m < length rows → ReadBeside axis (pre_at rows k) → on_axis axis (path_with t (pre_at rows k) attr) (row_path t (pre_at rows m)) ≡ true → Begun axis rows links attr k m
+  pub on-chain : (axis : Axis) → is_near axis ≡ true → Laid axis tested t rows → Linked axis rows links (length rows) → (attr k m : ℕ) → k < length rows → m < length rows → WereRead axis attr (pre_at rows k) → on_axis axis (path_with t (pre_at rows k) attr) (row_path t (pre_at rows m)) ≡ true → Begun axis rows links attr k m
   on-chain a.Parent n d linked = on-parent d linked
   on-chain a.Ancestor n d linked = on-ancestor d linked
   on-chain a.AncestorOrSelf n d linked = on-self d linked

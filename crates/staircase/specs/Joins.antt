@@ -4,8 +4,9 @@ use Rattle.xq_base.specs.declared.item.TextId.{TextId}
 use Rattle.xq_base.specs.declared.axis.Axis.{Axis}
 use Rattle.xq_base.specs.declared.axis.NodeTest.{NodeTest}
 use Rattle.doc_table.specs.Tree.{Tree}
-use Rattle.doc_table.specs.Axes.{id_eq, test_of, steps_to}
-use Rattle.doc_table.specs.Places.{Place, names_node, node_at}
+use Rattle.doc_table.specs.Axes.{id_eq, on_axis, test_of, steps_to}
+use Rattle.doc_table.specs.Places.{Place, names_node, node_at, path_at, row_path}
+use Rattle.doc_table.specs.Paths.{Path}
 use Rattle.doc_table.specs.Touched.{Counts, adds_owner, touched_rows}
 use Rattle.doc_table.specs.Enc.{enc}
 use Rattle.doc_table.specs.Sound.{is_sound}
@@ -17,7 +18,9 @@ use Rattle.staircase.specs.Seen.{seen_of}
 use Rattle.staircase.specs.declared.kinds.Ctx.{Ctx}
 use Rattle.staircase.specs.declared.kinds.Tally.{Tally}
 use Rattle.staircase.specs.Hits.{Ascending, AppendsHits}
+use Rattle.staircase.specs.Made.{iter_for}
 use Rattle.staircase.specs.Parts.{In}
+use Rattle.staircase.specs.Tasks.{lets}
 
 abbrev pub place_of : Ctx → Place
 place_of c = record { pre = c.pre; attr = c.attr }
@@ -92,9 +95,22 @@ pub record Ready (axis : Axis) (test : NodeTest) (t : Tree TextId) (cs : List Ct
   pub sound : is_sound id_eq is_empty_id t ≡ true
   pub ascending : Ascending cs
   pub nodes : AreNodes t cs
-  pub span : is_span axis ≡ true
   pub rows_are : rows ≡ own axis cs
   pub seen_are : seen ≡ map (seen_of axis test t) (touched_rows axis t (places cs))
+
+-- the path of a row, or of an attribute of it
+abbrev pub path_with : Tree TextId → ℕ → ℕ → Path
+path_with t c k = record { steps = path_at t c; attr = k }
+
+-- the hit is a row on the axis of a node of the context, and is one of those that come in question
+pub record Stands (axis : Axis) (test : NodeTest) (t : Tree TextId) (cs : List Ctx) (counting : Bool) (h : Hit) : Type 0 where
+  pub ctx : Ctx
+  pub there : In ctx cs
+  pub row : ℕ
+  pub within : row < length (enc t)
+  pub lets_in : lets counting (seen_of axis test t row) ≡ true
+  pub on : on_axis axis (path_with t ctx.pre ctx.attr) (row_path t row) ≡ true
+  pub is : h ≡ record { pre = row; attr = 0; iter = iter_for counting ctx }
 
 -- as many as the hits have, each once
 pub record IsCount (hits : List Hit) (n : ℕ) : Type 0 where

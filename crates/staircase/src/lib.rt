@@ -12,6 +12,7 @@ mod context;
 mod count;
 mod down;
 mod frames;
+mod gather;
 mod hits;
 mod kids;
 mod kinds;
@@ -31,4 +32,4 @@ mod test;
 mod tests;
 
 pub use kinds::{Ctx, Tally};
-pub use step::span_step;
+pub use step::join;

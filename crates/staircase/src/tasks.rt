@@ -137,7 +137,7 @@ fn do_tasks(
 }
 
 /// Gathers the hits of a context on the axes whose rows stand between two numbers.
-pub(crate) fn gather(
+pub(crate) fn gather_spans(
     alloc: Global,
     axis: Axis,
     counting: bool,

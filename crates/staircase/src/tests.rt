@@ -1,7 +1,7 @@
 //! Steps over two small documents, with what they append, read and count.
-ghost use Rattle.std.specs.Prelude.{◌≡◌, true, IfOk};
+ghost use Rattle.std.specs.Prelude.{◌≡◌, IfOk};
 ghost use Rattle.staircase.specs.Hits.{Ascending};
-ghost use Rattle.staircase.specs.Joins.{is_span, AreNodes};
+ghost use Rattle.staircase.specs.Joins.{AreNodes};
 ghost use Rattle.staircase.specs.Samples.{mixed, nested};
 
 use super::*;
@@ -66,13 +66,12 @@ fn compare(
     rows: &[u32],
     tally: Tally,
 )
-    requires axis { is_span axis ≡ true }
     requires ascending { Ascending context.now }
     requires nodes { AreNodes tree.now context.now }
 {
     let mut reads = Reads::new(NoteList::new(alloc));
     let mut out = Vec::new(alloc);
-    let joined = span_step(
+    let joined = join(
         alloc,
         tree,
         FragKey::Doc(0),
