@@ -1,11 +1,10 @@
 -- What chains of the rows that were read lead to.
-use Rattle.std.proofs.Common.{inl, inr, ◌⊎◌, ◌≡◌, ℕ, zero, suc, ◌+◌, ◌-◌, ◌<◌, ◌≤◌, Bool, true, false, ◌&&◌, cond, List, [], ◌∷◌, length, reverse, refl, sym, ap, ◌∙◌, subst, arith, Option, Some, None}
-use Rattle.std.specs.Prelude.{nat_eq, nat_le, slice_index_or}
-use Rattle.std.proofs.lemmas.Bool.{eq-eqb, eqb-true, le-leb, leb-true, cases_order, cases_lt, and_parts, and_from, false≢true, true≢false}
-use Rattle.std.proofs.lemmas.List.{get_or-reverse, length-reverse}
+use Rattle.std.proofs.Common.{inl, inr, ◌⊎◌, ◌≡◌, ℕ, zero, suc, ◌+◌, ◌-◌, ◌<◌, ◌≤◌, Bool, true, false, ◌&&◌, cond, List, length, reverse, refl, sym, ap, ◌∙◌, subst, arith, Option, Some, None}
+use Rattle.std.specs.Prelude.{nat_eq, nat_le}
+use Rattle.std.proofs.lemmas.Bool.{eq-eqb, eqb-true, le-leb, leb-true, cases_order, cases_lt, and_parts, and_from, true≢false}
+use Rattle.std.proofs.lemmas.List.{get_or-reverse}
 use Rattle.xq_base.specs.declared.item.TextId.{TextId}
 use Rattle.xq_base.specs.declared.axis.Axis.{Axis}
-use Rattle.xq_base.specs.declared.axis.Axis.TheVariants as a
 use Rattle.xq_base.specs.declared.axis.NodeTest.{NodeTest}
 use Rattle.doc_table.specs.Tree.{Tree}
 use Rattle.doc_table.specs.Enc.{enc, line_in}
@@ -14,9 +13,9 @@ use Rattle.doc_table.proofs.Kids.{level-deeper}
 use Rattle.doc_table.proofs.Marks.{bridge}
 use Rattle.staircase.specs.declared.seen.Seen.{Seen}
 use Rattle.staircase.specs.Chains.{no_seen, row_at, kept_at, is_sibling, leads_on, lined, turned, ends_at, is_next, next_of, Leads, leads_here, leads_more, Nearest, Linked}
-use Rattle.staircase.specs.Parts.{In, AreRows, IsRising}
+use Rattle.staircase.specs.Parts.{In, AreRows}
 use Rattle.staircase.specs.Seen.{seen_of, AllSeen}
-use Rattle.staircase.proofs.Kin.{IsChild, Twins, child-to, twins-join, twins-turned, next-twin, by-next}
+use Rattle.staircase.proofs.Kin.{IsChild, Twins, twins-join, twins-turned, next-twin, by-next}
 use Rattle.staircase.proofs.Linking.{Falls, Next, leads-on, lined-at, lined-from, lined-many, linked-at, next-falls, next-from, next-to}
 use Rattle.staircase.proofs.Parting.{same-at, in-at, place-in}
 

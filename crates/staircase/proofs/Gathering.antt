@@ -1,7 +1,7 @@
 -- The rows that are gathered are those on the axis, on each axis.
-use Rattle.std.proofs.Common.{inl, inr, ◌≡◌, ℕ, zero, suc, ◌<◌, ◌≤◌, Bool, true, false, ◌||◌, List, length, refl, sym, ap, ◌∙◌, subst, arith, Option, Some}
+use Rattle.std.proofs.Common.{◌≡◌, ℕ, zero, suc, ◌<◌, Bool, true, false, ◌||◌, List, length, refl, sym, ap, ◌∙◌, subst, arith, Option}
 use Rattle.std.specs.Prelude.{nat_eq}
-use Rattle.std.proofs.lemmas.Bool.{ne_eqb, or_left, or_right, false≢true}
+use Rattle.std.proofs.lemmas.Bool.{ne_eqb, or_right, false≢true}
 use Rattle.xq_base.specs.declared.item.TextId.{TextId}
 use Rattle.xq_base.specs.declared.axis.Axis.{Axis}
 use Rattle.xq_base.specs.declared.axis.Axis.TheVariants as a
@@ -9,7 +9,6 @@ use Rattle.xq_base.specs.declared.axis.NodeTest.{NodeTest}
 use Rattle.doc_table.specs.Tree.{Tree}
 use Rattle.doc_table.specs.Enc.{enc}
 use Rattle.doc_table.specs.Axes.{on_axis}
-use Rattle.doc_table.specs.Paths.{Path}
 use Rattle.doc_table.specs.Places.{row_path, RowsTell}
 use Rattle.doc_table.specs.Touched.{adds_owner, is_context, touched}
 use Rattle.doc_table.proofs.Marks.{bridge}
@@ -22,7 +21,7 @@ use Rattle.staircase.specs.Joins.{is_near, is_span, path_with, place_of, places,
 use Rattle.staircase.specs.Made.{iter_for, made}
 use Rattle.staircase.specs.Parts.{In, AreRows}
 use Rattle.staircase.specs.Seen.{seen_of, AllSeen}
-use Rattle.staircase.specs.Tasks.{AddsAll, AnyOf, Finds, Gains, hit_in, lets}
+use Rattle.staircase.specs.Tasks.{AddsAll, AnyOf, Finds, Gains, lets}
 use Rattle.staircase.proofs.Boards.{board, board-in, board-rows, in-board}
 use Rattle.staircase.proofs.Chaining.{Laid, laid, leads-past, place-of, pre_at}
 use Rattle.staircase.proofs.Gaining.{gains-as}
@@ -162,8 +161,7 @@ module _ (axis : Axis) (test : NodeTest) (t : Tree TextId) (cs : List Ctx) (rows
       (λ y l e. read y l (subst (λ z. on_axis axis (path_with t z c.attr) (row_path t y) ≡ true) w.1 e))
       (subst (λ z. on_axis axis (path_with t (pre_at (lined axis seen) k) c.attr) (row_path t z) ≡ true) (sym m.2) (subst (λ z. on_axis axis (path_with t z c.attr) (row_path t x.row) ≡ true) (sym w.1) x.on)) in
       let stood = d.stood m.0 m.1 in
-      let is : seen_of axis test t x.row ≡ row_at (lined axis seen) m.0 = ap (seen_of axis test t) (sym m.2) ∙ sym stood.is in
-      (
+      let is : seen_of axis test t x.row ≡ row_at (lined axis seen) m.0 = ap (seen_of axis test t) (sym m.2) ∙ sym stood.is in (
         record { iter = iter_for counting c; place = go.start },
         starts-to axis counting seen (lined axis seen) links cs c p.0 go.start x.there found go.begins,
         (m.0, go.leads, ap (lets counting) (sym is) ∙ x.lets_in, x.is ∙ ap (λ z. record { pre = z; attr = 0; iter = iter_for counting c }) (sym m.2)),

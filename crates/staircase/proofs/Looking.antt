@@ -9,7 +9,7 @@ use Rattle.xq_base.specs.declared.axis.Axis.TheVariants as a
 use Rattle.xq_base.specs.declared.axis.NodeTest.{NodeTest}
 use Rattle.doc_table.specs.Tree.{Tree}
 use Rattle.doc_table.specs.Enc.{enc, line_in}
-use Rattle.doc_table.specs.Paths.{Path, is_same}
+use Rattle.doc_table.specs.Paths.{is_same}
 use Rattle.doc_table.specs.Axes.{on_axis, on_following, on_preceding}
 use Rattle.doc_table.specs.Places.{path_at, row_path, RowsTell}
 use Rattle.doc_table.proofs.ByRows.{same, by-self, by-child, by-descendant, by-descendant_or_self, by-following, by-preceding}

@@ -1,5 +1,5 @@
 -- The rows on the chain of a node are those on its axis.
-use Rattle.std.proofs.Common.{inl, inr, ◌⊎◌, ◌≡◌, ℕ, zero, suc, ◌+◌, ◌<◌, ◌≤◌, Bool, true, false, not, ◌&&◌, ◌||◌, List, [], ◌∷◌, length, refl, sym, ap, ◌∙◌, subst, arith, Option, Some, None}
+use Rattle.std.proofs.Common.{inl, inr, ◌≡◌, ℕ, zero, suc, ◌+◌, ◌<◌, ◌≤◌, true, false, List, length, refl, sym, ap, ◌∙◌, subst, arith, Option, Some, None}
 use Rattle.std.specs.Prelude.{nat_eq, nat_lt, nat_le}
 use Rattle.std.proofs.lemmas.Bool.{eq-eqb, ne_eqb, eqb-true, lt-ltb, le-leb, leb-true, ltb-true, cases_order, cases_lt, and_parts, and_from, or_left, or_cases, false≢true}
 use Rattle.xq_base.specs.declared.item.TextId.{TextId}
@@ -14,7 +14,7 @@ use Rattle.doc_table.specs.Places.{path_at, row_path, within}
 use Rattle.doc_table.proofs.ByRows.{same, by-ancestor, by-child}
 use Rattle.doc_table.proofs.Marks.{bridge}
 use Rattle.staircase.specs.declared.seen.Seen.{Seen}
-use Rattle.staircase.specs.Chains.{is_sibling, leads_on, is_next, row_at, kept_at, start_of, next_of, onward, Leads, leads_here, leads_more, Linked}
+use Rattle.staircase.specs.Chains.{is_sibling, leads_on, start_of, next_of, onward, Leads, leads_here, leads_more, Linked}
 use Rattle.staircase.specs.Joins.{is_near, path_with}
 use Rattle.staircase.proofs.ByWay.{by-ancestor_or_self}
 use Rattle.staircase.proofs.Chaining.{pre_at, Laid, Over, over-before, over-leads, leads-over, next-over, leads-past, parent-next, next-parent, leads-siblings, same-place, IsSiblingAxis, siblings-lead, siblings-lead_on}

@@ -9,7 +9,7 @@ use Rattle.xq_base.specs.declared.axis.NodeTest.{NodeTest}
 use Rattle.doc_table.specs.Tree.{Tree}
 use Rattle.doc_table.specs.Enc.{enc}
 use Rattle.doc_table.specs.Axes.{id_eq, on_axis}
-use Rattle.doc_table.specs.Places.{Place, names_node, node_at, is_lone, row_path, RowsTell}
+use Rattle.doc_table.specs.Places.{Place, names_node, node_at, is_lone, row_path}
 use Rattle.doc_table.specs.Sound.{is_sound}
 use Rattle.doc_table.specs.Spine.{is_empty_id}
 use Rattle.doc_table.specs.Touched.{count, counts, is_context, is_result, touched, touched_rows, some_place}
@@ -19,7 +19,7 @@ use Rattle.staircase.specs.declared.kinds.Ctx.{Ctx}
 use Rattle.staircase.specs.declared.seen.Seen.{Seen}
 use Rattle.staircase.specs.Ahead.{has, UpFrom}
 use Rattle.staircase.specs.Hits.{Ascending, all_after, ctx_of}
-use Rattle.staircase.specs.Joins.{AreNodes, IsCount, Ready, Stands, path_with, place_of, places, row_hit, tally_of}
+use Rattle.staircase.specs.Joins.{IsCount, Ready, Stands, path_with, place_of, places, row_hit, tally_of}
 use Rattle.staircase.specs.Parts.{In}
 use Rattle.staircase.specs.Seen.{seen_of}
 use Rattle.staircase.specs.Tasks.{Gains, lets}

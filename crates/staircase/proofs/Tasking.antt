@@ -1,17 +1,15 @@
 -- What tasks find.
-use Rattle.std.proofs.Common.{inl, inr, ◌⊎◌, ◌≡◌, ℕ, zero, suc, ◌+◌, ◌<◌, ◌≤◌, Bool, true, false, ◌&&◌, cond, List, [], ◌∷◌, ◌++◌, length, take, drop, refl, sym, ap, ◌∙◌, subst, arith, Option, Some, None, IsPermutation}
+use Rattle.std.proofs.Common.{inl, inr, ◌⊎◌, ◌≡◌, ℕ, zero, suc, ◌<◌, ◌≤◌, Bool, true, false, ◌&&◌, cond, List, [], ◌∷◌, ◌++◌, length, drop, refl, sym, ap, ◌∙◌, subst, arith, Option, Some, None}
 use Rattle.std.specs.Prelude.{nat_eq, nat_lt, nat_le, is_none, slice_index_or}
-use Rattle.std.proofs.Math.Seq.{take-suc}
-use Rattle.std.proofs.lemmas.List.Sorted.{Contains-permutation, IsPermutation-sym}
-use Rattle.std.proofs.lemmas.List.{append-nil, drop_all, take_all}
+use Rattle.std.proofs.lemmas.List.{append-nil, drop_all}
 use Rattle.std.proofs.lemmas.Bool.{eq-eqb, ne_eqb, eqb-true, cases_order, lt-ltb, le-leb, leb-true, ltb-true, and_parts, and_from, false≢true}
 use Rattle.staircase.specs.declared.hits.Hit.{Hit}
 use Rattle.staircase.specs.declared.seen.Seen.{Seen}
 use Rattle.staircase.specs.declared.task.Task.{Task}
 use Rattle.staircase.specs.Parts.{In, Between, IsRising, Splits}
 use Rattle.staircase.specs.Made.{row_found}
-use Rattle.staircase.specs.Tasks.{Adds, AddsAll, AllOf, Goes, Finds, found, lets, keeps, hit_in, covers, limit_covers, at_level, ends_before}
-use Rattle.staircase.proofs.Elements.{in-left, in-right, in-parts, in-contains, contains-in}
+use Rattle.staircase.specs.Tasks.{Adds, AllOf, Goes, Finds, found, lets, keeps, hit_in, covers, limit_covers, at_level, ends_before}
+use Rattle.staircase.proofs.Elements.{in-left, in-right, in-parts}
 use Rattle.staircase.proofs.Parting.{same-at}
 
 -- at the end of a list all of it came

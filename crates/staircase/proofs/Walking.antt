@@ -1,5 +1,5 @@
 -- A walk along a chain gathers the rows on it.
-use Rattle.std.proofs.Common.{inl, inr, ◌⊎◌, ◌≡◌, ℕ, suc, ◌<◌, ◌≤◌, Bool, true, false, cond, List, [], ◌∷◌, ◌++◌, length, refl, sym, ap, ◌∙◌, subst, arith, Option, Some, None}
+use Rattle.std.proofs.Common.{inl, inr, ◌⊎◌, ◌≡◌, ℕ, ◌<◌, ◌≤◌, Bool, true, false, cond, List, [], ◌∷◌, ◌++◌, length, refl, sym, ap, ◌∙◌, subst, arith, Option, Some, None}
 use Rattle.std.specs.Prelude.{slice_set, nat_eq}
 use Rattle.std.specs.Option.{option_eq}
 use Rattle.std.proofs.lemmas.Bool.{cases_order, eqb-true, false≢true}
@@ -7,7 +7,7 @@ use Rattle.std.proofs.lemmas.List.{get_or-set_same, get_or-set_other}
 use Rattle.staircase.specs.declared.chain.Start.{Start}
 use Rattle.staircase.specs.declared.hits.Hit.{Hit}
 use Rattle.staircase.specs.declared.seen.Seen.{Seen}
-use Rattle.staircase.specs.Chains.{row_at, kept_at, Leads, leads_here, leads_more, Behind, Marked, OnChain, OnWay, Past, Walking, Walks}
+use Rattle.staircase.specs.Chains.{row_at, kept_at, Leads, leads_here, leads_more, Behind, Marked, OnWay, Past, Walking, Walks}
 use Rattle.staircase.specs.Parts.{In}
 use Rattle.staircase.specs.Tasks.{hit_in, lets}
 use Rattle.staircase.proofs.Elements.{in-left, in-right, in-parts}

@@ -33,7 +33,11 @@ fn turned(axis: Axis, total: usize, k: usize) -> usize
     ensures place { result ≡ turned axis total k }
     ensures within { result < total }
 {
-    if axis == Axis::FollowingSibling { total - 1 - k } else { k }
+    if axis == Axis::FollowingSibling {
+        total - 1 - k
+    } else {
+        k
+    }
 }
 
 /// The place of row `pre`, where it was read.
@@ -77,7 +81,11 @@ fn start_of(
     if begins_here(axis, attr == 0) {
         return Some(k);
     }
-    if attr == 0 { next_of(axis, rows, links, k) } else { None }
+    if attr == 0 {
+        next_of(axis, rows, links, k)
+    } else {
+        None
+    }
 }
 
 /// Appends where the chain of a node of a context begins.

@@ -18,7 +18,11 @@ fn is_sibling(axis: Axis) -> bool
 fn ends_at(axis: Axis, at: Seen, from: Seen) -> bool
     ensures { result ≡ ends_at axis at from }
 {
-    if is_sibling(axis) { at.level <= from.level } else { from.pre <= at.last }
+    if is_sibling(axis) {
+        at.level <= from.level
+    } else {
+        from.pre <= at.last
+    }
 }
 
 /// The nearest place where a search from row `from` ends, among the places with links.

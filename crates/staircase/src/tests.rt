@@ -259,3 +259,124 @@ fn steps_go_over_attributes_and_texts(rt: HostRuntime) {
         tally(2, 7, 0, 7),
     );
 }
+
+#[test]
+fn steps_go_to_parents_and_ancestors(rt: HostRuntime) {
+    let alloc = rt.alloc();
+    let made = mixed(alloc);
+    assert!(rt; made.is_ok());
+    let Ok(tree) = made else { return };
+    let texts = [ctx(1, 3, 0), ctx(2, 5, 0), ctx(1, 7, 0)];
+    let attribute = [ctx(1, 1, 1)];
+    compare(
+        &rt,
+        alloc,
+        &tree,
+        Axis::Parent,
+        NodeTest::Any,
+        &texts,
+        &[ctx(2, 1, 0), ctx(1, 2, 0), ctx(1, 6, 0)],
+        &[0, 1, 2, 3, 4, 5, 6, 7],
+        tally(3, 3, 2, 8),
+    );
+    compare(
+        &rt,
+        alloc,
+        &tree,
+        Axis::Ancestor,
+        NodeTest::Any,
+        &texts,
+        &[
+            ctx(1, 0, 0),
+            ctx(2, 0, 0),
+            ctx(1, 1, 0),
+            ctx(2, 1, 0),
+            ctx(1, 2, 0),
+            ctx(1, 6, 0),
+        ],
+        &[0, 1, 2, 3, 4, 5, 6, 7],
+        tally(3, 4, 1, 8),
+    );
+    compare(
+        &rt,
+        alloc,
+        &tree,
+        Axis::AncestorOrSelf,
+        NodeTest::Text,
+        &texts,
+        &texts,
+        &[0, 1, 2, 3, 4, 5, 6, 7],
+        tally(3, 7, 1, 8),
+    );
+    compare(
+        &rt,
+        alloc,
+        &tree,
+        Axis::Parent,
+        NodeTest::Any,
+        &attribute,
+        &[ctx(1, 1, 0)],
+        &[0, 1],
+        tally(1, 1, 1, 2),
+    );
+    compare(
+        &rt,
+        alloc,
+        &tree,
+        Axis::AncestorOrSelf,
+        NodeTest::Any,
+        &attribute,
+        &[ctx(1, 0, 0), ctx(1, 1, 0), ctx(1, 1, 1)],
+        &[0, 1],
+        tally(1, 2, 0, 2),
+    );
+}
+
+#[test]
+fn steps_go_to_siblings(rt: HostRuntime) {
+    let alloc = rt.alloc();
+    let made = mixed(alloc);
+    assert!(rt; made.is_ok());
+    let Ok(tree) = made else { return };
+    let children = [ctx(1, 4, 0), ctx(2, 5, 0), ctx(1, 6, 0)];
+    compare(
+        &rt,
+        alloc,
+        &tree,
+        Axis::PrecedingSibling,
+        NodeTest::Any,
+        &children,
+        &[
+            ctx(1, 2, 0),
+            ctx(2, 2, 0),
+            ctx(1, 4, 0),
+            ctx(2, 4, 0),
+            ctx(1, 5, 0),
+        ],
+        &[0, 1, 2, 4, 5, 6],
+        tally(3, 3, 2, 6),
+    );
+    compare(
+        &rt,
+        alloc,
+        &tree,
+        Axis::FollowingSibling,
+        NodeTest::Any,
+        &children,
+        &[ctx(1, 5, 0), ctx(1, 6, 0), ctx(2, 6, 0)],
+        &[0, 1, 2, 4, 5, 6],
+        tally(3, 2, 3, 6),
+    );
+    let nested = [ctx(1, 2, 0), ctx(1, 3, 0)];
+    compare(
+        &rt,
+        alloc,
+        &tree,
+        Axis::FollowingSibling,
+        NodeTest::Star,
+        &nested,
+        &[ctx(1, 4, 0), ctx(1, 6, 0)],
+        &[0, 1, 2, 3, 4, 5, 6],
+        tally(2, 3, 2, 7),
+    );
+}

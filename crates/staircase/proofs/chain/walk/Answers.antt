@@ -1,8 +1,8 @@
-use Rattle.std.proofs.Common.{◌≡◌, ◌<◌, ◌∙◌, ℕ, Option, Some, None, List, length, ap, sym, subst, arith}
+use Rattle.std.proofs.Common.{◌≡◌, ◌<◌, ◌∙◌, ℕ, Option, Some, None, List, length, sym, subst, arith}
 use Rattle.std.specs.Prelude.{slice_set}
 use Rattle.std.proofs.Math.ListN.{length-set}
 use Rattle.staircase.specs.declared.seen.Seen.{Seen}
-use Rattle.staircase.specs.Chains.{kept_at, onward, Below, Walking, Walks}
+use Rattle.staircase.specs.Chains.{kept_at, onward, Below, Walking}
 use Rattle.staircase.proofs.Linking.{onward-falls, onward-below}
 use Rattle.staircase.proofs.Parting.{same-at}
 use Rattle.staircase.proofs.Walking.{option-same, walk-start, walk-end, walk-met, walk-step}

@@ -1,4 +1,4 @@
-use Rattle.std.proofs.Common.{◌≡◌, ◌∙◌, ℕ, Option, refl, sym, subst, arith, IsPermutation}
+use Rattle.std.proofs.Common.{refl, sym, subst, IsPermutation}
 use Rattle.std.proofs.lemmas.List.Sorted.{Contains-permutation, IsPermutation-sym}
 use Rattle.staircase.specs.Chains.{onward, OnChain}
 use Rattle.staircase.proofs.Elements.{in-contains, contains-in}

@@ -1,5 +1,5 @@
-use Rattle.std.proofs.Common.{◌<◌, ◌∙◌, length, sym, subst, arith, refl}
-use Rattle.staircase.specs.Chains.{Below, Past, ends_at, row_at}
+use Rattle.std.proofs.Common.{◌<◌, ◌∙◌, length, sym, subst}
+use Rattle.staircase.specs.Chains.{Below, Past}
 use Rattle.staircase.proofs.Linking.{nearest-jump}
 use Rattle.staircase.proofs.links.nearest.Goals as goal
 

@@ -1,4 +1,4 @@
-use Rattle.std.proofs.Common.{Some, arith, ◌<◌}
+use Rattle.std.proofs.Common.{arith}
 use Rattle.staircase.proofs.Linking.{linked-at}
 use Rattle.staircase.proofs.Parting.{in-at}
 use Rattle.staircase.proofs.links.next_of.Goals as goal
