@@ -17,6 +17,8 @@ mod near;
 mod near_reads;
 mod own;
 mod part;
+#[cfg(test)]
+mod plain;
 mod read;
 mod reads;
 mod seen;
@@ -26,6 +28,8 @@ mod tasks;
 mod test;
 #[cfg(test)]
 mod tests;
+#[cfg(test)]
+mod worked;
 
 pub use kinds::{Ctx, Tally};
 pub use step::span_step;
