@@ -15,6 +15,8 @@ mod kids;
 mod kinds;
 mod near;
 mod near_reads;
+#[cfg(test)]
+mod near_tests;
 mod own;
 mod part;
 #[cfg(test)]

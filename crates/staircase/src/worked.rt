@@ -38,6 +38,25 @@ fn element(pre: u32, steps: [u32; 4], depth: u32, name: u64) -> Plain {
     row(pre, steps, depth, Kind::Element, Some(TextId(name)))
 }
 
+/// Appends a node in each iteration in which a step goes to it.
+fn push_hits(
+    nodes: &[Plain],
+    axis: Axis,
+    test: NodeTest,
+    context: &[Ctx],
+    q: &Plain,
+    hits: &mut Vec<Ctx>,
+) -> Result<(), Want> {
+    for iter in 0..4 {
+        if goes_to(nodes, axis, test, context, iter, q)
+            && hits.push(ctx(iter, q.pre, q.attr)).is_err()
+        {
+            return Err(Want);
+        }
+    }
+    Ok(())
+}
+
 /// The hits of a step, in the order of nodes and iterations.
 fn plain_step(
     alloc: Global,
@@ -48,13 +67,7 @@ fn plain_step(
 ) -> Result<Vec<Ctx>, Want> {
     let mut hits = Vec::new(alloc);
     for q in nodes {
-        for iter in 0..4 {
-            if goes_to(nodes, axis, test, context, iter, q)
-                && hits.push(ctx(iter, q.pre, q.attr)).is_err()
-            {
-                return Err(Want);
-            }
-        }
+        push_hits(nodes, axis, test, context, q, &mut hits)?;
     }
     Ok(hits)
 }
