@@ -19,8 +19,12 @@ mod kinds;
 mod links;
 mod near;
 mod near_reads;
+#[cfg(test)]
+mod near_tests;
 mod own;
 mod part;
+#[cfg(test)]
+mod plain;
 mod read;
 mod reads;
 mod seen;
@@ -30,6 +34,8 @@ mod tasks;
 mod test;
 #[cfg(test)]
 mod tests;
+#[cfg(test)]
+mod worked;
 
 pub use kinds::{Ctx, Tally};
 pub use step::join;

@@ -10,7 +10,7 @@ use std::alloc::Global;
 use std::process::Abort;
 use xq_base::{Axis, FragKey, NodeTest, TextId, Want};
 
-fn nested(alloc: Global) -> Result<Fragment, Want>
+pub(crate) fn nested(alloc: Global) -> Result<Fragment, Want>
     ensures { IfOk result (λ tree. tree ≡ nested) }
 {
     let mut tree = FragmentBuilder::new(alloc);
@@ -27,7 +27,7 @@ fn nested(alloc: Global) -> Result<Fragment, Want>
     Ok(tree.finish())
 }
 
-fn mixed(alloc: Global) -> Result<Fragment, Want>
+pub(crate) fn mixed(alloc: Global) -> Result<Fragment, Want>
     ensures { IfOk result (λ tree. tree ≡ mixed) }
 {
     let mut tree = FragmentBuilder::new(alloc);
@@ -48,7 +48,7 @@ fn mixed(alloc: Global) -> Result<Fragment, Want>
     Ok(tree.finish())
 }
 
-fn ctx(iter: u64, pre: u32, attr: u32) -> Ctx
+pub(crate) fn ctx(iter: u64, pre: u32, attr: u32) -> Ctx
     ensures { result ≡ record { iter = iter; pre = pre; attr = attr } }
 {
     Ctx { iter, pre, attr }
