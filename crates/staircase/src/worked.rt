@@ -1,11 +1,11 @@
 //! Steps over two small documents, compared with a plain program that goes by paths.
-ghost use Rattle.std.specs.Prelude.{◌≡◌, true};
+ghost use Rattle.std.specs.Prelude.{◌≡◌};
 ghost use Rattle.staircase.specs.Hits.{Ascending};
-ghost use Rattle.staircase.specs.Joins.{is_span, AreNodes};
+ghost use Rattle.staircase.specs.Joins.{AreNodes};
 
 use crate::kinds::Ctx;
 use crate::plain::{Plain, goes_to};
-use crate::step::span_step;
+use crate::step::join;
 use crate::tests::{ctx, mixed, nested};
 use doc_table::{Fragment, Kind, NoteList, Reads};
 use std::alloc::Global;
@@ -82,13 +82,12 @@ fn compare_step(
     test: NodeTest,
     context: &[Ctx],
 )
-    requires axis { is_span axis ≡ true }
     requires ascending { Ascending context.now }
     requires nodes { AreNodes tree.now context.now }
 {
     let mut reads = Reads::new(NoteList::new(alloc));
     let mut out = Vec::new(alloc);
-    let joined = span_step(
+    let joined = join(
         alloc,
         tree,
         FragKey::Doc(0),
@@ -115,7 +114,6 @@ fn compare_axis(
     axis: Axis,
     context: &[Ctx],
 )
-    requires axis { is_span axis ≡ true }
     requires ascending { Ascending context.now }
     requires nodes { AreNodes tree.now context.now }
 {
@@ -150,6 +148,11 @@ fn compare_all(rt: &impl Abort, alloc: Global, tree: &Fragment, nodes: &[Plain],
     compare_axis(rt, alloc, tree, nodes, Axis::DescendantOrSelf, context);
     compare_axis(rt, alloc, tree, nodes, Axis::Following, context);
     compare_axis(rt, alloc, tree, nodes, Axis::Preceding, context);
+    compare_axis(rt, alloc, tree, nodes, Axis::Parent, context);
+    compare_axis(rt, alloc, tree, nodes, Axis::Ancestor, context);
+    compare_axis(rt, alloc, tree, nodes, Axis::AncestorOrSelf, context);
+    compare_axis(rt, alloc, tree, nodes, Axis::PrecedingSibling, context);
+    compare_axis(rt, alloc, tree, nodes, Axis::FollowingSibling, context);
 }
 
 #[test]
