@@ -17,7 +17,7 @@ use Rattle.staircase.specs.declared.hits.Hit.{Hit}
 use Rattle.staircase.specs.declared.kinds.Ctx.{Ctx}
 use Rattle.staircase.specs.declared.seen.Seen.{Seen}
 use Rattle.staircase.specs.Chains.{all_starts, lined, onward, row_at, turned, AddsChains, Linked, OnChain}
-use Rattle.staircase.specs.Joins.{is_near, is_span, path_with, place_of, places, AreNodes, Ready, Stands}
+use Rattle.staircase.specs.Joins.{is_chained, is_near, path_with, place_of, places, AreNodes, Ready, Stands}
 use Rattle.staircase.specs.Made.{iter_for, made}
 use Rattle.staircase.specs.Parts.{In, AreRows}
 use Rattle.staircase.specs.Seen.{seen_of, AllSeen}
@@ -55,37 +55,23 @@ seen-in axis test t cs rows seen r v l e = subst (λ z. In (seen_of axis test t 
 
 -- ---- what a step touches
 
-pub span-or-near : (axis : Axis) → is_near axis ≡ false → is_span axis ≡ true
-span-or-near a.SelfNode e = refl
-span-or-near a.Child e = refl
-span-or-near a.Attribute e = refl
-span-or-near a.Descendant e = refl
-span-or-near a.DescendantOrSelf e = refl
-span-or-near a.Following e = refl
-span-or-near a.Preceding e = refl
-span-or-near a.Parent e = absurd (false≢true (sym e))
-span-or-near a.Ancestor e = absurd (false≢true (sym e))
-span-or-near a.AncestorOrSelf e = absurd (false≢true (sym e))
-span-or-near a.PrecedingSibling e = absurd (false≢true (sym e))
-span-or-near a.FollowingSibling e = absurd (false≢true (sym e))
-
 pub own-touched : (axis : Axis) (t : Tree TextId) (cs : List Ctx) (c : ℕ) → c < length (enc t) → is_context axis (places cs) c ≡ true → touched axis t (places cs) c ≡ true
 own-touched axis t cs c l e = go (is_near axis) refl
   where
     go : (b : Bool) → is_near axis ≡ b → touched axis t (places cs) c ≡ true
     go true n = near-own axis t cs c (bridge t) n l e
-    go false n = touch-own axis t cs c (span-or-near axis n) l e
+    go false n = touch-own axis t cs c n l e
 
 pub axis-touched : (axis : Axis) (t : Tree TextId) (cs : List Ctx) (c : Ctx) (v : ℕ) → In c cs → c.pre < length (enc t) → v < length (enc t) → on_axis axis (path_with t c.pre c.attr) (row_path t v) ≡ true → touched axis t (places cs) v ≡ true
 axis-touched axis t cs c v i l m e = go (is_near axis) refl
   where
     go : (b : Bool) → is_near axis ≡ b → touched axis t (places cs) v ≡ true
     go true n = near-axis axis t cs c v (bridge t) n i l m e
-    go false n = touch-axis axis t cs c v (bridge t) (span-or-near axis n) i l m e
+    go false n = touch-axis axis t cs c v (bridge t) n i l m e
 
 -- ---- the axes whose rows stand between two numbers
 
-pub span-gains : (axis : Axis) (test : NodeTest) (t : Tree TextId) (cs : List Ctx) (rows : List ℕ) (seen : List Seen) (counting : Bool) (old new : List Hit) → is_span axis ≡ true → Ready axis test t cs rows seen → AddsAll seen counting (made axis counting seen cs) old new → Gains (Stands axis test t cs counting) old new
+pub span-gains : (axis : Axis) (test : NodeTest) (t : Tree TextId) (cs : List Ctx) (rows : List ℕ) (seen : List Seen) (counting : Bool) (old new : List Hit) → is_chained axis ≡ false → Ready axis test t cs rows seen → AddsAll seen counting (made axis counting seen cs) old new → Gains (Stands axis test t cs counting) old new
 span-gains axis test t cs rows seen counting old new n r = gains-as (AnyOf (Finds seen counting) (made axis counting seen cs)) (Stands axis test t cs counting) old new
     (λ h f. stands-from axis test t cs counting (wanted axis t cs) h f.0 (bridge t) n r.few (row-of axis t cs (bridge t) r.nodes) (subst (λ z. In f.0 (made axis counting z cs)) r.seen_are f.1) (subst (λ z. Finds z counting f.0 h) r.seen_are f.2))
     (λ h s. let f = stands-to axis test t cs counting (wanted axis t cs) h (bridge t) n r.few (row-of axis t cs (bridge t) r.nodes) (λ w m. refl) s in
@@ -94,23 +80,24 @@ span-gains axis test t cs rows seen counting old new n r = gains-as (AnyOf (Find
 -- ---- the axes whose rows stand on chains
 
 -- a node with rows on one of these axes is on a row of the context
-near-owner : (axis : Axis) (t : Tree TextId) (c k v : ℕ) → is_near axis ≡ true → on_axis axis (path_with t c k) (row_path t v) ≡ true → (nat_eq k 0 || adds_owner axis) ≡ true
-near-owner a.Parent t c k v n e = or_right (nat_eq k 0) true refl
-near-owner a.Ancestor t c k v n e = or_right (nat_eq k 0) true refl
-near-owner a.AncestorOrSelf t c k v n e = or_right (nat_eq k 0) true refl
-near-owner a.PrecedingSibling t c zero v n e = refl
-near-owner a.PrecedingSibling t c (suc k) v n e = (let z : nat_eq (suc k) 0 ≡ false = ne_eqb (suc k) 0 (λ q. omega arith) in absurd (false≢true (rw z at e)))
-near-owner a.FollowingSibling t c zero v n e = refl
-near-owner a.FollowingSibling t c (suc k) v n e = (let z : nat_eq (suc k) 0 ≡ false = ne_eqb (suc k) 0 (λ q. omega arith) in absurd (false≢true (rw z at e)))
-near-owner a.SelfNode t c k v n e = absurd (false≢true n)
-near-owner a.Child t c k v n e = absurd (false≢true n)
-near-owner a.Attribute t c k v n e = absurd (false≢true n)
-near-owner a.Descendant t c k v n e = absurd (false≢true n)
-near-owner a.DescendantOrSelf t c k v n e = absurd (false≢true n)
-near-owner a.Following t c k v n e = absurd (false≢true n)
-near-owner a.Preceding t c k v n e = absurd (false≢true n)
+chain-owner : (axis : Axis) (t : Tree TextId) (c k v : ℕ) → is_chained axis ≡ true → on_axis axis (path_with t c k) (row_path t v) ≡ true → (nat_eq k 0 || adds_owner axis) ≡ true
+chain-owner a.Parent t c k v n e = or_right (nat_eq k 0) true refl
+chain-owner a.Ancestor t c k v n e = or_right (nat_eq k 0) true refl
+chain-owner a.AncestorOrSelf t c k v n e = or_right (nat_eq k 0) true refl
+chain-owner a.PrecedingSibling t c zero v n e = refl
+chain-owner a.PrecedingSibling t c (suc k) v n e = (let z : nat_eq (suc k) 0 ≡ false = ne_eqb (suc k) 0 (λ q. omega arith) in absurd (false≢true (rw z at e)))
+chain-owner a.FollowingSibling t c zero v n e = refl
+chain-owner a.FollowingSibling t c (suc k) v n e = (let z : nat_eq (suc k) 0 ≡ false = ne_eqb (suc k) 0 (λ q. omega arith) in absurd (false≢true (rw z at e)))
+chain-owner a.SelfNode t c k v n e = absurd (false≢true n)
+chain-owner a.Child t c zero v n e = refl
+chain-owner a.Child t c (suc k) v n e = (let z : nat_eq (suc k) 0 ≡ false = ne_eqb (suc k) 0 (λ q. omega arith) in absurd (false≢true (rw z at e)))
+chain-owner a.Attribute t c k v n e = absurd (false≢true n)
+chain-owner a.Descendant t c k v n e = absurd (false≢true n)
+chain-owner a.DescendantOrSelf t c k v n e = absurd (false≢true n)
+chain-owner a.Following t c k v n e = absurd (false≢true n)
+chain-owner a.Preceding t c k v n e = absurd (false≢true n)
 
-module _ (axis : Axis) (test : NodeTest) (t : Tree TextId) (cs : List Ctx) (rows : List ℕ) (seen : List Seen) (counting : Bool) (links : List (Option ℕ)) (near : is_near axis ≡ true) (r : Ready axis test t cs rows seen) (linked : Linked axis (lined axis seen) links (length (lined axis seen))) where
+module _ (axis : Axis) (test : NodeTest) (t : Tree TextId) (cs : List Ctx) (rows : List ℕ) (seen : List Seen) (counting : Bool) (links : List (Option ℕ)) (chained : is_chained axis ≡ true) (r : Ready axis test t cs rows seen) (linked : Linked axis (lined axis seen) links (length (lined axis seen))) where
   abbrev lines : List Seen
   lines = lined axis seen
 
@@ -142,7 +129,7 @@ module _ (axis : Axis) (test : NodeTest) (t : Tree TextId) (cs : List Ctx) (rows
         row = pre_at (lined axis seen) m;
         within = stood.within;
         lets_in = ap (lets counting) (sym stood.is) ∙ x.2.2;
-        on = subst (λ z. on_axis axis (path_with t z b.ctx.attr) (row_path t (pre_at (lined axis seen) m)) ≡ true) w.1 (chain-on test t (lined axis seen) links axis near d linked b.ctx.attr k start.place m w.0 b.begins x.2.1);
+        on = subst (λ z. on_axis axis (path_with t z b.ctx.attr) (row_path t (pre_at (lined axis seen) m)) ≡ true) w.1 (chain-on test t (lined axis seen) links axis chained d linked b.ctx.attr k start.place m w.0 b.begins x.2.1);
         is = x.2.3 ∙ ap (λ z. record { pre = pre_at (lined axis seen) m; attr = 0; iter = z }) b.iter;
       }
 
@@ -150,14 +137,14 @@ module _ (axis : Axis) (test : NodeTest) (t : Tree TextId) (cs : List Ctx) (rows
   stands-chain h x =
       let c : Ctx = x.ctx in
       let lc : c.pre < length (enc t) = row-of axis t cs (bridge t) r.nodes c x.there in
-      let own = own-touched axis t cs c.pre lc (context-row axis cs c x.there (near-owner axis t c.pre c.attr x.row near x.on)) in
+      let own = own-touched axis t cs c.pre lc (context-row axis cs c x.there (chain-owner axis t c.pre c.attr x.row chained x.on)) in
       let p = place-in (seen_of axis test t c.pre) seen (seen-in axis test t cs rows seen r c.pre lc own) in
       let pre : (row_at seen p.0).pre ≡ c.pre = ap (λ (z : Seen). z.pre) (same-at seen p.0 _ (seen_of axis test t c.pre) p.1 ∙ p.2) in
       let found = place-found_at seen p.0 c.pre _ (ready-rows axis test t cs seen r.few r.seen_are).rising p.1 pre in
       let k : ℕ = turned axis (length (lined axis seen)) p.0 in
       let w = stood-at p.0 c.pre p.1 pre in
       let m = read x.row x.within x.on in
-      let go = on-chain test t (lined axis seen) links axis near d linked c.attr k m.0 w.0 m.1
+      let go = on-chain test t (lined axis seen) links axis chained d linked c.attr k m.0 w.0 m.1
       (λ y l e. read y l (subst (λ z. on_axis axis (path_with t z c.attr) (row_path t y) ≡ true) w.1 e))
       (subst (λ z. on_axis axis (path_with t (pre_at (lined axis seen) k) c.attr) (row_path t z) ≡ true) (sym m.2) (subst (λ z. on_axis axis (path_with t z c.attr) (row_path t x.row) ≡ true) (sym w.1) x.on)) in
       let stood = d.stood m.0 m.1 in
@@ -170,7 +157,7 @@ module _ (axis : Axis) (test : NodeTest) (t : Tree TextId) (cs : List Ctx) (rows
       read : (v : ℕ) → v < length (enc t) → on_axis axis (path_with t x.ctx.pre x.ctx.attr) (row_path t v) ≡ true → (k : ℕ) × (k < length (lined axis seen)) × (pre_at (lined axis seen) k ≡ v)
       read v l e = place-of axis seen (seen_of axis test t v) (seen-in axis test t cs rows seen r v l (axis-touched axis t cs x.ctx v x.there (row-of axis t cs (bridge t) r.nodes x.ctx x.there) l e))
 
-pub chain-gains : (axis : Axis) (test : NodeTest) (t : Tree TextId) (cs : List Ctx) (rows : List ℕ) (seen : List Seen) (counting : Bool) (old new : List Hit) → is_near axis ≡ true → Ready axis test t cs rows seen → AddsChains axis counting seen cs old new → Gains (Stands axis test t cs counting) old new
+pub chain-gains : (axis : Axis) (test : NodeTest) (t : Tree TextId) (cs : List Ctx) (rows : List ℕ) (seen : List Seen) (counting : Bool) (old new : List Hit) → is_chained axis ≡ true → Ready axis test t cs rows seen → AddsChains axis counting seen cs old new → Gains (Stands axis test t cs counting) old new
 chain-gains axis test t cs rows seen counting old new n r g =
     let linked : Linked axis (lined axis seen) g.links (length (lined axis seen)) = subst (λ z. Linked axis (lined axis seen) g.links z) (sym (lined-many axis seen)) g.linked in
     gains-as (AnyOf (OnChain (onward axis (lined axis seen) g.links) counting (lined axis seen)) (all_starts axis counting seen (lined axis seen) g.links cs)) (Stands axis test t cs counting) old new

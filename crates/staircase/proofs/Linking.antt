@@ -1,7 +1,7 @@
 -- The nearest places where searches end, and where chains begin.
-use Rattle.std.proofs.Common.{inl, inr, ◌⊎◌, ◌≡◌, ℕ, zero, suc, ◌+◌, ◌-◌, ◌<◌, ◌≤◌, Bool, true, false, cond, List, [], ◌∷◌, ◌++◌, length, reverse, refl, sym, ap, ◌∙◌, subst, arith, Option, Some, None, length-append}
-use Rattle.std.specs.Prelude.{nat_eq, nat_le, slice_index_or}
-use Rattle.std.proofs.lemmas.Bool.{eq-eqb, ne_eqb, eqb-true, cases_order, cases_lt}
+use Rattle.std.proofs.Common.{inl, inr, ◌⊎◌, ◌≡◌, ℕ, zero, suc, ◌+◌, ◌-◌, ◌<◌, ◌≤◌, Bool, true, false, ◌&&◌, cond, List, [], ◌∷◌, ◌++◌, length, reverse, refl, sym, ap, ◌∙◌, subst, arith, Option, Some, None, length-append}
+use Rattle.std.specs.Prelude.{nat_eq, nat_lt, nat_le, slice_index_or}
+use Rattle.std.proofs.lemmas.Bool.{eq-eqb, ne_eqb, eqb-true, lt-ltb, ltb-true, and_parts, and_from, cases_order, cases_lt}
 use Rattle.std.proofs.lemmas.Bool.Decides.{nat_tests}
 use Rattle.std.proofs.lemmas.List.{length-reverse, get_or-reverse}
 use Rattle.xq_base.specs.declared.axis.Axis.{Axis}
@@ -9,7 +9,7 @@ use Rattle.staircase.specs.declared.chain.Start.{Start}
 use Rattle.staircase.specs.declared.hits.Hit.{Hit}
 use Rattle.staircase.specs.declared.kinds.Ctx.{Ctx}
 use Rattle.staircase.specs.declared.seen.Seen.{Seen}
-use Rattle.staircase.specs.Chains.{row_at, kept_at, is_sibling, leads_on, lined, turned, ends_at, is_next, where_next, next_of, is_lone_step, onward, begins_here, start_of, one_later, place_found, started, starts_at, starts_one, all_starts, AreOrdered, AreWithin, AddsChains, AddsWalks, Leads, leads_here, leads_more, Below, Past, Nearest, Linked, up_to}
+use Rattle.staircase.specs.Chains.{row_at, kept_at, is_sibling, leads_on, lined, turned, ends_at, is_next, where_next, next_of, is_lone_step, onward, begins_below, begins_here, first_child, first_of_row, start_of, one_later, place_found, started, starts_at, starts_one, all_starts, AreOrdered, AreWithin, AddsChains, AddsWalks, Leads, leads_here, leads_more, Below, Past, Nearest, Linked, up_to}
 use Rattle.staircase.specs.Made.{iter_for}
 use Rattle.staircase.specs.Parts.{In, AreRows, IsRising, Splits}
 use Rattle.staircase.proofs.Elements.{in-left, in-right, in-parts}
@@ -199,12 +199,48 @@ turned-within axis n k l = go (leads_on axis)
     go true = omega arith
     go false = l
 
+-- the first child, with the rows turned around
+pub record FirstChild (rows : List Seen) (k j : ℕ) : Type 0 where
+  pub before : k ≡ suc j
+  pub pre : (row_at rows j).pre ≡ (row_at rows k).pre + 1
+  pub inner : (row_at rows k).pre < (row_at rows k).last
+
+pub first-child_from : (rows : List Seen) (k j : ℕ) → first_child rows k ≡ Some j → FirstChild rows k j
+first-child_from rows k j e = go (nat_lt 0 k && (nat_lt (row_at rows k).pre (row_at rows k).last && nat_eq (row_at rows (k - 1)).pre ((row_at rows k).pre + 1))) refl e
+  where
+    go : (b : Bool) → (nat_lt 0 k && (nat_lt (row_at rows k).pre (row_at rows k).last && nat_eq (row_at rows (k - 1)).pre ((row_at rows k).pre + 1))) ≡ b → cond b (Some (k - 1)) None ≡ Some j → FirstChild rows k j
+    go true f e =
+        let q : k - 1 ≡ j = cc in
+        let p = and_parts (nat_lt 0 k) (nat_lt (row_at rows k).pre (row_at rows k).last && nat_eq (row_at rows (k - 1)).pre ((row_at rows k).pre + 1)) f in
+        let r = and_parts (nat_lt (row_at rows k).pre (row_at rows k).last) (nat_eq (row_at rows (k - 1)).pre ((row_at rows k).pre + 1)) p.1 in
+        record {
+          before = omega (arith, ltb-true 0 k p.0, q);
+          pre = ap (λ z. (row_at rows z).pre) (sym q) ∙ eqb-true (row_at rows (k - 1)).pre ((row_at rows k).pre + 1) r.1;
+          inner = ltb-true (row_at rows k).pre (row_at rows k).last r.0;
+        }
+    go false f e = cc
+
+pub first-child_to : (rows : List Seen) (j : ℕ) → (row_at rows j).pre ≡ (row_at rows (suc j)).pre + 1 → (row_at rows (suc j)).pre < (row_at rows (suc j)).last → first_child rows (suc j) ≡ Some j
+first-child_to rows j e l =
+    let back : suc j - 1 ≡ j = omega arith in
+    let all : (nat_lt 0 (suc j) && (nat_lt (row_at rows (suc j)).pre (row_at rows (suc j)).last && nat_eq (row_at rows (suc j - 1)).pre ((row_at rows (suc j)).pre + 1))) ≡ true =
+    and_from (nat_lt 0 (suc j)) (nat_lt (row_at rows (suc j)).pre (row_at rows (suc j)).last && nat_eq (row_at rows (suc j - 1)).pre ((row_at rows (suc j)).pre + 1)) (lt-ltb 0 (suc j) (omega arith))
+    (and_from (nat_lt (row_at rows (suc j)).pre (row_at rows (suc j)).last) (nat_eq (row_at rows (suc j - 1)).pre ((row_at rows (suc j)).pre + 1)) (lt-ltb (row_at rows (suc j)).pre (row_at rows (suc j)).last l) (eq-eqb (row_at rows (suc j - 1)).pre ((row_at rows (suc j)).pre + 1) (ap (λ z. (row_at rows z).pre) back ∙ e))) in
+    ap (λ b. cond b (Some (suc j - 1)) None) all ∙ ap (λ z. Some z) back
+
+first-falls : (axis : Axis) (rows : List Seen) (links : List (Option ℕ)) (n k j : ℕ) → Linked axis rows links n → k < n → first_of_row axis rows links k ≡ Some j → j < k
+first-falls axis rows links n k j a l e = go (begins_below axis) e
+  where
+    go : (b : Bool) → cond b (first_child rows k) (next_of axis rows links k) ≡ Some j → j < k
+    go true e = (let f = first-child_from rows k j e in omega (arith, f.before))
+    go false e = next-falls axis rows links n a k j l e
+
 pub start-within : (axis : Axis) (rows : List Seen) (links : List (Option ℕ)) (attr k p : ℕ) → Linked axis rows links (length rows) → k < length rows → start_of axis rows links attr k ≡ Some p → p ≤ k
 start-within axis rows links attr k p a l e = go (begins_here axis (nat_eq attr 0)) (nat_eq attr 0) e
   where
-    go : (b d : Bool) → cond b (Some k) (cond d (next_of axis rows links k) None) ≡ Some p → p ≤ k
+    go : (b d : Bool) → cond b (Some k) (cond d (first_of_row axis rows links k) None) ≡ Some p → p ≤ k
     go true d e = (let q : k ≡ p = cc in omega arith)
-    go false true e = omega (arith, next-falls axis rows links (length rows) a k p l e)
+    go false true e = omega (arith, first-falls axis rows links (length rows) k p a l e)
     go false false e = cc
 
 pub starts-within : (axis : Axis) (counting : Bool) (seen rows : List Seen) (links : List (Option ℕ)) (cs : List Ctx) → length rows ≡ length seen → Linked axis rows links (length rows) → AreWithin (all_starts axis counting seen rows links cs) (length rows)

@@ -10,16 +10,17 @@ use Rattle.doc_table.specs.Tree.{Tree}
 use Rattle.doc_table.specs.Enc.{enc, line_in}
 use Rattle.doc_table.specs.Paths.{is_prefix, is_same}
 use Rattle.doc_table.specs.Axes.{on_axis, on_ancestor, on_self}
-use Rattle.doc_table.specs.Places.{path_at, row_path, within}
+use Rattle.doc_table.specs.Places.{path_at, row_path, within, child}
 use Rattle.doc_table.proofs.ByRows.{same, by-ancestor, by-child}
+use Rattle.doc_table.proofs.Kids.{children_stand}
 use Rattle.doc_table.proofs.Marks.{bridge}
 use Rattle.staircase.specs.declared.seen.Seen.{Seen}
-use Rattle.staircase.specs.Chains.{is_sibling, leads_on, start_of, next_of, onward, Leads, leads_here, leads_more, Linked}
-use Rattle.staircase.specs.Joins.{is_near, path_with}
+use Rattle.staircase.specs.Chains.{first_child, is_sibling, leads_on, row_at, start_of, next_of, onward, Leads, leads_here, leads_more, Linked}
+use Rattle.staircase.specs.Joins.{is_chained, path_with}
 use Rattle.staircase.proofs.ByWay.{by-ancestor_or_self}
 use Rattle.staircase.proofs.Chaining.{pre_at, Laid, Over, over-before, over-leads, leads-over, next-over, leads-past, parent-next, next-parent, leads-siblings, same-place, IsSiblingAxis, siblings-lead, siblings-lead_on}
-use Rattle.staircase.proofs.Kin.{IsChild, Twins, child-from, child-to, twins-turned, before-from, before-to, after-from, after-to}
-use Rattle.staircase.proofs.Linking.{next-falls}
+use Rattle.staircase.proofs.Kin.{IsChild, Twins, one-row, child-from, child-to, twins-turned, before-from, before-to, after-from, after-to}
+use Rattle.staircase.proofs.Linking.{first-child_from, first-child_to, next-falls}
 
 no_zero : (k : ℕ) → nat_eq (suc k) 0 ≡ false
 no_zero k = ne_eqb (suc k) 0 (λ e. omega arith)
@@ -129,14 +130,28 @@ module _ (tested : NodeTest) (t : Tree TextId) (rows : List Seen) (links : List 
       after-to t (pre_at rows k) (pre_at rows m) (twins-turned t (pre_at rows m) (pre_at rows k) x.1) (d.down refl m k x.0 l)
   following-on d linked (suc i) k s m l e r = (let f : None ≡ Some s = rw (no_zero i) at e in cc)
 
-  pub chain-on : (axis : Axis) → is_near axis ≡ true → Laid axis tested t rows → Linked axis rows links (length rows) → (attr k s m : ℕ) → k < length rows → start_of axis rows links attr k ≡ Some s → Leads (onward axis rows links) s m → on_axis axis (path_with t (pre_at rows k) attr) (row_path t (pre_at rows m)) ≡ true
+  child-on : Laid a.Child tested t rows → Linked a.Child rows links (length rows) → Starts a.Child
+  child-on d linked zero k s m l e r =
+      let f = first-child_from rows k s e in
+      let ls : s < length rows = omega (arith, f.before) in
+      let inner : 0 < (line_in (enc t) (pre_at rows k)).size = omega (arith, f.inner, (d.stood k l).last) in
+      let next : pre_at rows s ≡ suc (pre_at rows k) = omega (arith, f.pre) in
+      let c : IsChild t (pre_at rows k) (pre_at rows s) = child-from t (pre_at rows k) (pre_at rows s) (d.stood k l).within (d.stood s ls).within (ap (child (enc t) (pre_at rows k)) next ∙ (children_stand t).first (pre_at rows k) (d.stood k l).within inner) in
+      let is : IsChild t (pre_at rows k) (pre_at rows m) = elim (leads-siblings a.Child tested t rows links d linked (refl, λ s r. refl) {k = s} {m = m} ls r) [
+        | inl q ↦ subst (λ z. IsChild t (pre_at rows k) (pre_at rows z)) (sym q) c
+        | inr x ↦ subst (λ z. IsChild t z (pre_at rows m)) (one-row t x.1.0 (pre_at rows k) (pre_at rows s) x.1.2 c) x.1.1
+      ] in
+      by-child t (pre_at rows k) (pre_at rows m) (bridge t) is.parent is.row ∙ child-to t (pre_at rows k) (pre_at rows m) is
+  child-on d linked (suc i) k s m l e r = (let f : None ≡ Some s = rw (no_zero i) at e in cc)
+
+  pub chain-on : (axis : Axis) → is_chained axis ≡ true → Laid axis tested t rows → Linked axis rows links (length rows) → (attr k s m : ℕ) → k < length rows → start_of axis rows links attr k ≡ Some s → Leads (onward axis rows links) s m → on_axis axis (path_with t (pre_at rows k) attr) (row_path t (pre_at rows m)) ≡ true
   chain-on a.Parent n d linked = parent-on d linked
   chain-on a.Ancestor n d linked = ancestor-on d linked
   chain-on a.AncestorOrSelf n d linked = self-on d linked
   chain-on a.PrecedingSibling n d linked = preceding-on d linked
   chain-on a.FollowingSibling n d linked = following-on d linked
   chain-on a.SelfNode n d linked = absurd (false≢true n)
-  chain-on a.Child n d linked = absurd (false≢true n)
+  chain-on a.Child n d linked = child-on d linked
   chain-on a.Attribute n d linked = absurd (false≢true n)
   chain-on a.Descendant n d linked = absurd (false≢true n)
   chain-on a.DescendantOrSelf n d linked = absurd (false≢true n)
@@ -216,14 +231,51 @@ module _ (tested : NodeTest) (t : Tree TextId) (rows : List Seen) (links : List 
       record { start = y.0; begins = y.1; leads = y.2 }
   on-following d linked (suc i) k m l h b e = absurd (false≢true (rw (no_zero i) at e))
 
-  pub on-chain : (axis : Axis) → is_near axis ≡ true → Laid axis tested t rows → Linked axis rows links (length rows) → (attr k m : ℕ) → k < length rows → m < length rows → WereRead axis attr (pre_at rows k) → on_axis axis (path_with t (pre_at rows k) attr) (row_path t (pre_at rows m)) ≡ true → Begun axis rows links attr k m
+  on-child : Laid a.Child tested t rows → Linked a.Child rows links (length rows) → On a.Child
+  on-child d linked zero k m l h b e =
+      let c : IsChild t (pre_at rows k) (pre_at rows m) = child-from t (pre_at rows k) (pre_at rows m) (d.stood k l).within (d.stood m h).within (sym (by-child t (pre_at rows k) (pre_at rows m) (bridge t) (d.stood k l).within (d.stood m h).within) ∙ e) in
+      let inner : 0 < (line_in (enc t) (pre_at rows k)).size = omega (arith, c.after, c.inside) in
+      let x : ℕ = suc (pre_at rows k) in
+      let f : IsChild t (pre_at rows k) x = child-from t (pre_at rows k) x (d.stood k l).within (omega (arith, c.row, c.after)) ((children_stand t).first (pre_at rows k) (d.stood k l).within inner) in
+      let i = read x f in
+      let before : k ≡ suc i.0 = next-place i.0 i.1 i.2 in
+      let begins : first_child rows k ≡ Some i.0 = ap (first_child rows) before ∙ first-child_to rows i.0 (i.2 ∙ ap (λ z. suc (pre_at rows z)) before ∙ plus (pre_at rows (suc i.0))) (subst (λ z. pre_at rows z < (row_at rows z).last) before (omega (arith, inner, (d.stood k l).last))) in
+      record {
+        start = i.0;
+        begins = begins;
+        leads = elim (cases_lt (pre_at rows i.0) (pre_at rows m)) [
+          | inl less ↦ siblings-lead_on a.Child tested t rows links d linked (refl, λ s r. refl) refl (pre_at rows k) i.0 m i.1 h (subst (λ z. IsChild t (pre_at rows k) z) (sym i.2) f) c less (λ v lo hi y. read v y)
+          | inr more ↦ (let q : i.0 ≡ m = same-place a.Child tested t rows links d linked i.0 m i.1 h (omega (arith, i.2, c.after)) in subst (λ z. Leads (onward a.Child rows links) i.0 z) q leads_here)
+        ];
+      }
+    where
+      read : (v : ℕ) → IsChild t (pre_at rows k) v → (i : ℕ) × (i < length rows) × (pre_at rows i ≡ v)
+      read v y = b v y.row (by-child t (pre_at rows k) v (bridge t) y.parent y.row ∙ child-to t (pre_at rows k) v y)
+
+      plus : (z : ℕ) → suc z ≡ z + 1
+      plus z = omega arith
+
+      next-place : (i : ℕ) → i < length rows → pre_at rows i ≡ suc (pre_at rows k) → k ≡ suc i
+      next-place i li e = elim (cases_order k (suc i)) [
+        | inl q ↦ q
+        | inr o ↦ elim o [
+          | inl less ↦ elim (cases_order k i) [
+            | inl q ↦ absurd (let z : pre_at rows k ≡ pre_at rows i = ap (pre_at rows) q in omega arith)
+            | inr p ↦ elim p [ inl y ↦ absurd (omega (arith, d.down refl k i y li)) | inr y ↦ absurd (omega arith) ]
+          ]
+          | inr more ↦ absurd (omega (arith, d.down refl i (suc i) (omega arith) (omega arith), d.down refl (suc i) k more l))
+        ]
+      ]
+  on-child d linked (suc i) k m l h b e = absurd (false≢true (rw (no_zero i) at e))
+
+  pub on-chain : (axis : Axis) → is_chained axis ≡ true → Laid axis tested t rows → Linked axis rows links (length rows) → (attr k m : ℕ) → k < length rows → m < length rows → WereRead axis attr (pre_at rows k) → on_axis axis (path_with t (pre_at rows k) attr) (row_path t (pre_at rows m)) ≡ true → Begun axis rows links attr k m
   on-chain a.Parent n d linked = on-parent d linked
   on-chain a.Ancestor n d linked = on-ancestor d linked
   on-chain a.AncestorOrSelf n d linked = on-self d linked
   on-chain a.PrecedingSibling n d linked = on-preceding d linked
   on-chain a.FollowingSibling n d linked = on-following d linked
   on-chain a.SelfNode n d linked = absurd (false≢true n)
-  on-chain a.Child n d linked = absurd (false≢true n)
+  on-chain a.Child n d linked = on-child d linked
   on-chain a.Attribute n d linked = absurd (false≢true n)
   on-chain a.Descendant n d linked = absurd (false≢true n)
   on-chain a.DescendantOrSelf n d linked = absurd (false≢true n)

@@ -1,6 +1,6 @@
 -- What tasks find.
 use Rattle.std.proofs.Common.{inl, inr, ◌⊎◌, ◌≡◌, ℕ, zero, suc, ◌<◌, ◌≤◌, Bool, true, false, ◌&&◌, cond, List, [], ◌∷◌, ◌++◌, length, drop, refl, sym, ap, ◌∙◌, subst, arith, Option, Some, None}
-use Rattle.std.specs.Prelude.{nat_eq, nat_lt, nat_le, is_none, slice_index_or}
+use Rattle.std.specs.Prelude.{nat_eq, nat_lt, nat_le, slice_index_or}
 use Rattle.std.proofs.lemmas.List.{append-nil, drop_all}
 use Rattle.std.proofs.lemmas.Bool.{eq-eqb, ne_eqb, eqb-true, cases_order, lt-ltb, le-leb, leb-true, ltb-true, and_parts, and_from, false≢true}
 use Rattle.staircase.specs.declared.hits.Hit.{Hit}
@@ -8,7 +8,7 @@ use Rattle.staircase.specs.declared.seen.Seen.{Seen}
 use Rattle.staircase.specs.declared.task.Task.{Task}
 use Rattle.staircase.specs.Parts.{In, Between, IsRising, Splits}
 use Rattle.staircase.specs.Made.{row_found}
-use Rattle.staircase.specs.Tasks.{Adds, AllOf, Goes, Finds, found, lets, keeps, hit_in, covers, limit_covers, at_level, ends_before}
+use Rattle.staircase.specs.Tasks.{Adds, AllOf, Goes, Finds, found, lets, keeps, hit_in, covers, limit_covers, ends_before}
 use Rattle.staircase.proofs.Elements.{in-left, in-right, in-parts}
 use Rattle.staircase.proofs.Parting.{same-at}
 
@@ -55,29 +55,22 @@ adds-found seen part counting task old new b e = record {
 -- what a task finds that another one covers, the other one finds
 pub covered : (seen : List Seen) (counting : Bool) (task other : Task) (h : Hit) → covers task other ≡ true → Finds seen counting other h → Finds seen counting task h
 covered seen counting task other h c f =
-    let a = and_parts (nat_eq task.iter other.iter) (nat_le task.first other.first && (nat_le other.end task.end && (is_none task.level && limit_covers task.limit other.limit))) c in
-    let b = and_parts (nat_le task.first other.first) (nat_le other.end task.end && (is_none task.level && limit_covers task.limit other.limit)) a.1 in
-    let d = and_parts (nat_le other.end task.end) (is_none task.level && limit_covers task.limit other.limit) b.1 in
-    let g = and_parts (is_none task.level) (limit_covers task.limit other.limit) d.1 in
+    let a = and_parts (nat_eq task.iter other.iter) (nat_le task.first other.first && (nat_le other.end task.end && limit_covers task.limit other.limit)) c in
+    let b = and_parts (nat_le task.first other.first) (nat_le other.end task.end && limit_covers task.limit other.limit) a.1 in
+    let d = and_parts (nat_le other.end task.end) (limit_covers task.limit other.limit) b.1 in
     let iter : task.iter ≡ other.iter = eqb-true task.iter other.iter a.0 in
     let s : Seen = f.0 in
     let p = and_parts (nat_le other.first s.pre && nat_lt s.pre other.end) (keeps other s) f.3 in
     let q = and_parts (nat_le other.first s.pre) (nat_lt s.pre other.end) p.0 in
-    let k = and_parts (at_level other.level s) (ends_before other.limit s) p.1 in
     let lo : task.first ≤ s.pre = omega (arith, leb-true task.first other.first b.0, leb-true other.first s.pre q.0) in
     let hi : s.pre < task.end = omega (arith, leb-true other.end task.end d.0, ltb-true s.pre other.end q.1) in (
       s,
       f.1,
       f.2,
-      and_from (nat_le task.first s.pre && nat_lt s.pre task.end) (keeps task s) (and_from (nat_le task.first s.pre) (nat_lt s.pre task.end) (le-leb task.first s.pre lo) (lt-ltb s.pre task.end hi))
-          (and_from (at_level task.level s) (ends_before task.limit s) (level task.level g.0) (limit task.limit other.limit g.1 k.1)),
+      and_from (nat_le task.first s.pre && nat_lt s.pre task.end) (keeps task s) (and_from (nat_le task.first s.pre) (nat_lt s.pre task.end) (le-leb task.first s.pre lo) (lt-ltb s.pre task.end hi)) (limit task.limit other.limit d.1 p.1),
       f.4 ∙ ap (λ z. hit_in z s) (sym iter),
     )
   where
-    level : (l : Option ℕ) → is_none l ≡ true → at_level l f.0 ≡ true
-    level None e = refl
-    level (Some x) e = absurd (false≢true e)
-
     limit : (l o : Option ℕ) → limit_covers l o ≡ true → ends_before o f.0 ≡ true → ends_before l f.0 ≡ true
     limit None o e r = refl
     limit (Some x) None e r = absurd (false≢true e)

@@ -1,6 +1,6 @@
--- Chains of rows, on which the hits of parent, ancestor, ancestor-or-self and both sibling axes stand
--- (own rule).
-use Rattle.std.specs.Prelude.{ℕ, suc, ◌≡◌, ◌+◌, ◌-◌, ◌<◌, ◌≤◌, Bool, true, false, not, ◌&&◌, if◌then◌else◌, ◌⊎◌, List, [], ◌∷◌, ◌++◌, length, reverse, Option, Some, None, slice_index_or, nat_eq, nat_le}
+-- Chains of rows, on which the hits of child, parent, ancestor, ancestor-or-self and both sibling axes
+-- stand (own rule).
+use Rattle.std.specs.Prelude.{ℕ, suc, ◌≡◌, ◌+◌, ◌-◌, ◌<◌, ◌≤◌, Bool, true, false, not, ◌&&◌, if◌then◌else◌, ◌⊎◌, List, [], ◌∷◌, ◌++◌, length, reverse, Option, Some, None, slice_index_or, nat_eq, nat_lt, nat_le}
 use Rattle.xq_base.specs.declared.axis.Axis.{Axis}
 use Rattle.xq_base.specs.declared.axis.Axis.TheVariants as a
 use Rattle.staircase.specs.declared.chain.Start.{Start}
@@ -23,14 +23,16 @@ row_at rows k = slice_index_or rows k no_seen
 abbrev pub kept_at : List (Option ℕ) → ℕ → Option ℕ
 kept_at xs k = slice_index_or xs k None
 
--- the axes on siblings
+-- the axes whose chains lead from sibling to sibling
 abbrev pub is_sibling : Axis → Bool
+is_sibling a.Child = true
 is_sibling a.PrecedingSibling = true
 is_sibling a.FollowingSibling = true
 is_sibling _ = false
 
--- the axis whose chains lead to later rows
+-- the axes whose chains lead to later rows
 abbrev pub leads_on : Axis → Bool
+leads_on a.Child = true
 leads_on a.FollowingSibling = true
 leads_on _ = false
 
@@ -67,6 +69,7 @@ abbrev pub is_next : Axis → Seen → Seen → Bool
 is_next a.Parent s r = nat_eq r.level (s.level + 1)
 is_next a.Ancestor s r = true
 is_next a.AncestorOrSelf s r = true
+is_next a.Child s r = nat_eq s.level r.level && nat_eq s.pre (r.last + 1)
 is_next a.PrecedingSibling s r = nat_eq s.level r.level && nat_eq r.pre (s.last + 1)
 is_next a.FollowingSibling s r = nat_eq s.level r.level && nat_eq s.pre (r.last + 1)
 is_next _ s r = false
@@ -88,6 +91,10 @@ is_lone_step _ = false
 abbrev pub onward : Axis → List Seen → List (Option ℕ) → ℕ → Option ℕ
 onward axis rows links k = if is_lone_step axis then None else next_of axis rows links k
 
+-- the place of the first child of the row at a place, where the rows are turned around
+abbrev pub first_child : List Seen → ℕ → Option ℕ
+first_child rows k = if nat_lt 0 k && (nat_lt (row_at rows k).pre (row_at rows k).last && nat_eq (row_at rows (k - 1)).pre ((row_at rows k).pre + 1)) then Some (k - 1) else None
+
 -- the chain of a row, or of an attribute, begins with this row itself, or with the row of the attribute
 abbrev pub begins_here : Axis → Bool → Bool
 begins_here a.Parent is_row = not is_row
@@ -95,9 +102,18 @@ begins_here a.Ancestor is_row = not is_row
 begins_here a.AncestorOrSelf is_row = true
 begins_here _ is_row = false
 
+-- the axis on which the chain of a row begins with its first child
+abbrev pub begins_below : Axis → Bool
+begins_below a.Child = true
+begins_below _ = false
+
+-- where the chain of a row begins, if not with the row itself
+abbrev pub first_of_row : Axis → List Seen → List (Option ℕ) → ℕ → Option ℕ
+first_of_row axis rows links k = if begins_below axis then first_child rows k else next_of axis rows links k
+
 -- where the chain of a row, or of an attribute of it, begins
 abbrev pub start_of : Axis → List Seen → List (Option ℕ) → ℕ → ℕ → Option ℕ
-start_of axis rows links attr k = if begins_here axis (nat_eq attr 0) then Some k else (if nat_eq attr 0 then next_of axis rows links k else None)
+start_of axis rows links attr k = if begins_here axis (nat_eq attr 0) then Some k else (if nat_eq attr 0 then first_of_row axis rows links k else None)
 
 abbrev pub one_later : Option ℕ → Option ℕ
 one_later None = None

@@ -74,20 +74,20 @@ own axis cs = rows_from true (adds_owner axis) None cs
 abbrev pub owning : List Ctx → List ℕ
 owning cs = rows_from false true None cs
 
--- the axes whose rows stand between two numbers, and the one without rows
-abbrev pub is_span : Axis → Bool
-is_span a.SelfNode = true
-is_span a.Child = true
-is_span a.Descendant = true
-is_span a.DescendantOrSelf = true
-is_span a.Following = true
-is_span a.Preceding = true
-is_span a.Attribute = true
-is_span a.Parent = false
-is_span a.Ancestor = false
-is_span a.AncestorOrSelf = false
-is_span a.FollowingSibling = false
-is_span a.PrecedingSibling = false
+-- the axes whose rows stand on chains; those of the others stand between two numbers
+abbrev pub is_chained : Axis → Bool
+is_chained a.Child = true
+is_chained a.Parent = true
+is_chained a.Ancestor = true
+is_chained a.AncestorOrSelf = true
+is_chained a.FollowingSibling = true
+is_chained a.PrecedingSibling = true
+is_chained a.SelfNode = false
+is_chained a.Descendant = false
+is_chained a.DescendantOrSelf = false
+is_chained a.Following = false
+is_chained a.Preceding = false
+is_chained a.Attribute = false
 
 -- the rows of the context and the rows that the step reads, as they were found
 pub record Ready (axis : Axis) (test : NodeTest) (t : Tree TextId) (cs : List Ctx) (rows : List ℕ) (seen : List Seen) : Type 0 where

@@ -1,20 +1,16 @@
 -- What a node of a context looks for among the rows that were read (own rule).
-use Rattle.std.specs.Prelude.{ℕ, ◌≡◌, ◌⊎◌, Bool, true, false, ◌&&◌, if◌then◌else◌, List, [], ◌∷◌, ◌++◌, Option, Some, None, is_none, nat_eq, nat_lt, nat_le}
+use Rattle.std.specs.Prelude.{ℕ, ◌≡◌, ◌⊎◌, Bool, true, false, ◌&&◌, if◌then◌else◌, List, [], ◌∷◌, ◌++◌, Option, Some, None, nat_eq, nat_lt, nat_le}
 use Rattle.staircase.specs.declared.hits.Hit.{Hit}
 use Rattle.staircase.specs.declared.seen.Seen.{Seen}
 use Rattle.staircase.specs.declared.task.Task.{Task}
 use Rattle.staircase.specs.Parts.{In}
-
-abbrev pub at_level : Option ℕ → Seen → Bool
-at_level None s = true
-at_level (Some level) s = nat_eq s.level level
 
 abbrev pub ends_before : Option ℕ → Seen → Bool
 ends_before None s = true
 ends_before (Some limit) s = nat_lt s.last limit
 
 abbrev pub keeps : Task → Seen → Bool
-keeps task s = at_level task.level s && ends_before task.limit s
+keeps task s = ends_before task.limit s
 
 -- the row is among those that the task looks for
 abbrev pub in_task : Task → Seen → Bool
@@ -27,7 +23,7 @@ limit_covers (Some limit) (Some other) = nat_le other limit
 
 -- the first task looks for all rows that the second one looks for, in the same iteration
 abbrev pub covers : Task → Task → Bool
-covers task other = nat_eq task.iter other.iter && (nat_le task.first other.first && (nat_le other.end task.end && (is_none task.level && limit_covers task.limit other.limit)))
+covers task other = nat_eq task.iter other.iter && (nat_le task.first other.first && (nat_le other.end task.end && limit_covers task.limit other.limit))
 
 -- the rows that come in question: nodes where they are counted, else those that pass the node test
 abbrev pub lets : Bool → Seen → Bool

@@ -1,7 +1,7 @@
-//! The hits on the chains of the nodes of a context: parent, ancestor, ancestor-or-self and both
+//! The hits on the chains of the nodes of a context: child, parent, ancestor, ancestor-or-self and both
 //! sibling axes.
 ghost use Rattle.std.specs.Prelude.{◌≡◌, ◌<◌, ◌++◌, length, OnOk, IfOk, IfSome};
-ghost use Rattle.staircase.specs.Chains.{begins_here, leads_on, lined, all_starts, place_found, start_of, starts_one, turned, AddsChains, AreOrdered, Linked, AreWithin, NoMarks, AddsWalks};
+ghost use Rattle.staircase.specs.Chains.{begins_here, first_child, leads_on, lined, all_starts, place_found, start_of, starts_one, turned, AddsChains, AreOrdered, Linked, AreWithin, NoMarks, AddsWalks};
 ghost use Rattle.staircase.specs.Parts.{AreRows};
 
 use crate::chain::{Start, walk};
@@ -13,6 +13,13 @@ use crate::seen::Seen;
 use std::alloc::Global;
 use xq_base::{Axis, Want};
 
+/// Whether the chains of an axis lead to later rows.
+fn leads_on(axis: Axis) -> bool
+    ensures { result ≡ leads_on axis }
+{
+    axis == Axis::Child || axis == Axis::FollowingSibling
+}
+
 /// The rows in an order in which the chains of an axis lead to earlier places.
 fn lined(alloc: Global, axis: Axis, seen: &[Seen]) -> Result<Vec<Seen>, Want>
     ensures { IfOk result (λ rows. rows.items ≡ lined axis seen.now) }
@@ -21,7 +28,7 @@ fn lined(alloc: Global, axis: Axis, seen: &[Seen]) -> Result<Vec<Seen>, Want>
     if rows.extend_from_slice(seen).is_err() {
         return Err(Want);
     }
-    if axis == Axis::FollowingSibling {
+    if leads_on(axis) {
         rows.reverse();
     }
     Ok(rows)
@@ -33,11 +40,7 @@ fn turned(axis: Axis, total: usize, k: usize) -> usize
     ensures place { result ≡ turned axis total k }
     ensures within { result < total }
 {
-    if axis == Axis::FollowingSibling {
-        total - 1 - k
-    } else {
-        k
-    }
+    if leads_on(axis) { total - 1 - k } else { k }
 }
 
 /// The place of row `pre`, where it was read.
@@ -65,6 +68,18 @@ fn begins_here(axis: Axis, is_row: bool) -> bool
     }
 }
 
+/// The place of the first child of the row at place `k`, where the rows are turned around.
+fn first_child(rows: &[Seen], k: usize) -> Option<usize>
+    requires { k < length rows.now }
+    ensures { result ≡ first_child rows.now k }
+{
+    let own = rows[k];
+    if k > 0 && own.pre < own.last && rows[k - 1].pre == own.pre + 1 {
+        return Some(k - 1);
+    }
+    None
+}
+
 /// Where the chain of the row at place `k` begins, or that of an attribute of it.
 fn start_of(
     axis: Axis,
@@ -81,11 +96,13 @@ fn start_of(
     if begins_here(axis, attr == 0) {
         return Some(k);
     }
-    if attr == 0 {
-        next_of(axis, rows, links, k)
-    } else {
-        None
+    if attr > 0 {
+        return None;
     }
+    if axis == Axis::Child {
+        return first_child(rows, k);
+    }
+    next_of(axis, rows, links, k)
 }
 
 /// Appends where the chain of a node of a context begins.

@@ -3,7 +3,7 @@ ghost use Rattle.std.specs.Prelude.{◌≡◌, ℕ, List, OnOk};
 ghost use Rattle.xq_base.specs.declared.axis.NodeTest.{NodeTest};
 ghost use Rattle.xq_base.specs.declared.item.TextId.{TextId};
 ghost use Rattle.doc_table.specs.Tree.{Tree};
-ghost use Rattle.staircase.specs.Joins.{is_near, Ready, Stands};
+ghost use Rattle.staircase.specs.Joins.{is_chained, Ready, Stands};
 ghost use Rattle.staircase.specs.Parts.{AreRows};
 ghost use Rattle.staircase.specs.Tasks.{Gains};
 
@@ -16,11 +16,11 @@ use std::alloc::Global;
 use xq_base::{Axis, Want};
 
 /// Whether the rows of an axis stand on chains.
-fn is_near(axis: Axis) -> bool
-    ensures { result ≡ is_near axis }
+fn is_chained(axis: Axis) -> bool
+    ensures { result ≡ is_chained axis }
 {
     match axis {
-        Axis::Parent | Axis::Ancestor | Axis::AncestorOrSelf => true,
+        Axis::Child | Axis::Parent | Axis::Ancestor | Axis::AncestorOrSelf => true,
         Axis::PrecedingSibling | Axis::FollowingSibling => true,
         _ => false,
     }
@@ -39,7 +39,7 @@ pub(crate) fn gather(
     requires { AreRows seen.now }
     ensures { OnOk result ((test : NodeTest) (t : Tree TextId) (rows : List ℕ) → Ready axis test t context.now rows seen.now → Gains (Stands axis test t context.now counting) hits.old.items hits.new.items) }
 {
-    if is_near(axis) {
+    if is_chained(axis) {
         return gather_chains(alloc, axis, counting, seen, context, hits);
     }
     gather_spans(alloc, axis, counting, seen, context, hits)

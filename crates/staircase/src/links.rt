@@ -7,11 +7,11 @@ use crate::seen::Seen;
 use std::alloc::Global;
 use xq_base::{Axis, Want};
 
-/// Whether an axis is one on siblings.
+/// Whether the chains of an axis lead from sibling to sibling.
 fn is_sibling(axis: Axis) -> bool
     ensures { result ≡ is_sibling axis }
 {
-    axis == Axis::PrecedingSibling || axis == Axis::FollowingSibling
+    axis == Axis::Child || axis == Axis::PrecedingSibling || axis == Axis::FollowingSibling
 }
 
 /// Whether a search from row `from` ends at row `at`, which is at an earlier place.
@@ -76,7 +76,9 @@ fn is_next(axis: Axis, at: Seen, from: Seen) -> bool
         Axis::Parent => from.level == at.level + 1,
         Axis::Ancestor | Axis::AncestorOrSelf => true,
         Axis::PrecedingSibling => at.level == from.level && from.pre == at.last + 1,
-        Axis::FollowingSibling => at.level == from.level && at.pre == from.last + 1,
+        Axis::Child | Axis::FollowingSibling => {
+            at.level == from.level && at.pre == from.last + 1
+        }
         _ => false,
     }
 }
