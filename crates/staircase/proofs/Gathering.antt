@@ -22,7 +22,7 @@ use Rattle.staircase.specs.Made.{iter_for, made}
 use Rattle.staircase.specs.Parts.{In, AreRows}
 use Rattle.staircase.specs.Seen.{seen_of, AllSeen}
 use Rattle.staircase.specs.Tasks.{AddsAll, AnyOf, Finds, Gains, lets}
-use Rattle.staircase.proofs.Boards.{board, board-in, board-rows, in-board}
+use Rattle.staircase.proofs.RowsRead.{rows_read, read-in, read-ordered, in-read}
 use Rattle.staircase.proofs.Chaining.{Laid, laid, leads-past, place-of, pre_at}
 use Rattle.staircase.proofs.Gaining.{gains-as}
 use Rattle.staircase.proofs.Linking.{found-place, lined-at, lined-many, onward-falls, place-found_at, start-within, starts-from, starts-to, turned-within}
@@ -40,18 +40,18 @@ wanted axis t cs = touched axis t (places cs)
 
 -- ---- the list of rows that were read
 
-pub ready-rows : (axis : Axis) (test : NodeTest) (t : Tree TextId) (cs : List Ctx) (seen : List Seen) → length (enc t) < 4294967296 → seen ≡ board axis test t (wanted axis t cs) (length (enc t)) → AreRows seen
-ready-rows axis test t cs seen n e = subst AreRows (sym e) (board-rows axis test t (wanted axis t cs) (bridge t) n)
+pub ready-rows : (axis : Axis) (test : NodeTest) (t : Tree TextId) (cs : List Ctx) (seen : List Seen) → length (enc t) < 4294967296 → seen ≡ rows_read axis test t (wanted axis t cs) (length (enc t)) → AreRows seen
+ready-rows axis test t cs seen n e = subst AreRows (sym e) (read-ordered axis test t (wanted axis t cs) (bridge t) n)
 
-pub ready-seen : (axis : Axis) (test : NodeTest) (t : Tree TextId) (cs : List Ctx) (seen : List Seen) → seen ≡ board axis test t (wanted axis t cs) (length (enc t)) → AllSeen axis test t seen
+pub ready-seen : (axis : Axis) (test : NodeTest) (t : Tree TextId) (cs : List Ctx) (seen : List Seen) → seen ≡ rows_read axis test t (wanted axis t cs) (length (enc t)) → AllSeen axis test t seen
 ready-seen axis test t cs seen e s i =
-    let r = in-board axis test t (wanted axis t cs) (length (enc t)) s (subst (λ z. In s z) e i) in
+    let r = in-read axis test t (wanted axis t cs) (length (enc t)) s (subst (λ z. In s z) e i) in
     let pre : s.pre ≡ r.0 = ap (λ (z : Seen). z.pre) r.3 in
     (subst (λ z. z < length (enc t)) (sym pre) r.1, r.3 ∙ ap (seen_of axis test t) (sym pre))
 
 -- a row that is touched was read
 pub seen-in : (axis : Axis) (test : NodeTest) (t : Tree TextId) (cs : List Ctx) (rows : List ℕ) (seen : List Seen) → Ready axis test t cs rows seen → (v : ℕ) → v < length (enc t) → touched axis t (places cs) v ≡ true → In (seen_of axis test t v) seen
-seen-in axis test t cs rows seen r v l e = subst (λ z. In (seen_of axis test t v) z) (sym r.seen_are) (board-in axis test t (wanted axis t cs) (length (enc t)) v l e)
+seen-in axis test t cs rows seen r v l e = subst (λ z. In (seen_of axis test t v) z) (sym r.seen_are) (read-in axis test t (wanted axis t cs) (length (enc t)) v l e)
 
 -- ---- what a step touches
 

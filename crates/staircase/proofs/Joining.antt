@@ -24,7 +24,7 @@ use Rattle.staircase.specs.Parts.{In}
 use Rattle.staircase.specs.Seen.{seen_of}
 use Rattle.staircase.specs.Tasks.{Gains}
 use Rattle.staircase.proofs.Attained.{attributes-complete}
-use Rattle.staircase.proofs.Boards.{board-found}
+use Rattle.staircase.proofs.RowsRead.{read-found}
 use Rattle.staircase.proofs.Elements.{in-left, in-right, in-parts, in-contains, contains-in}
 use Rattle.staircase.proofs.Gathering.{own-touched, row-of, wanted}
 use Rattle.staircase.proofs.Naming.{node-at, passes-is, row-named, row-not_named}
@@ -85,7 +85,7 @@ own-found axis test t cs rows seen r c i e z =
     let l = row-of axis t cs (bridge t) r.nodes c i in
     let zero : nat_eq c.attr 0 ≡ true = ap (λ y. nat_eq y 0) z in
     let on : touched axis t (places cs) c.pre ≡ true = own-touched axis t cs c.pre l (context-row axis cs c i (or-first (nat_eq c.attr 0) _ zero)) in
-    ap (λ y. row_found y c.pre) r.seen_are ∙ board-found axis test t (wanted axis t cs) (length (enc t)) c.pre l on
+    ap (λ y. row_found y c.pre) r.seen_are ∙ read-found axis test t (wanted axis t cs) (length (enc t)) c.pre l on
   where
     or-first : (x y : Bool) → x ≡ true → (x || y) ≡ true
     or-first true y e = refl

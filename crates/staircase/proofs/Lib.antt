@@ -1,7 +1,6 @@
 pub mod Attained
 pub mod Attributing
 pub mod Beginning
-pub mod Boards
 pub mod ByWay
 pub mod Chaining
 pub mod Children
@@ -24,6 +23,7 @@ pub mod Passing
 pub mod Picks
 pub mod Reading
 pub mod Rowing
+pub mod RowsRead
 pub mod Some
 pub mod Spread
 pub mod Standing

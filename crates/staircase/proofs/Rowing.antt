@@ -22,7 +22,7 @@ use Rattle.staircase.specs.Made.{task_for, task_at, listed, made_one, made, row_
 use Rattle.staircase.specs.Parts.{In}
 use Rattle.staircase.specs.Seen.{seen_of}
 use Rattle.staircase.specs.Tasks.{Finds, in_task, lets, hit_in}
-use Rattle.staircase.proofs.Boards.{board, board-in, in-board, board-found, found-board}
+use Rattle.staircase.proofs.RowsRead.{rows_read, read-in, in-read, read-found, found-read}
 use Rattle.staircase.proofs.Elements.{in-left, in-right, in-parts}
 use Rattle.staircase.proofs.Looking.{looks, looks-is, before-attribute}
 use Rattle.staircase.proofs.Some.{place-in_some, below-some}
@@ -170,22 +170,22 @@ not-near a.FollowingSibling e = e
 not-near a.PrecedingSibling e = e
 
 pub stands-from : (axis : Axis) (tested : NodeTest) (t : Tree TextId) (cs : List Ctx) (counting : Bool) (wants : ℕ → Bool) (h : Hit) (task : Task) → RowsTell t → is_chained axis ≡ false → length (enc t) < 4294967296 → ((c : Ctx) → In c cs → c.pre < length (enc t))
-    → In task (made axis counting (board axis tested t wants (length (enc t))) cs) → Finds (board axis tested t wants (length (enc t))) counting task h → Stands axis tested t cs counting h
+    → In task (made axis counting (rows_read axis tested t wants (length (enc t))) cs) → Finds (rows_read axis tested t wants (length (enc t))) counting task h → Stands axis tested t cs counting h
 stands-from axis tested t cs counting wants h task b s n rows i f =
-    let seen : List Seen = board axis tested t wants (length (enc t)) in
+    let seen : List Seen = rows_read axis tested t wants (length (enc t)) in
     let m = in-made axis counting seen cs task i in
     let c : Ctx = m.0 in
-    let r = in-board axis tested t wants (length (enc t)) f.0 f.1 in
+    let r = in-read axis tested t wants (length (enc t)) f.0 f.1 in
     go c m.1 m.2 (row_found seen c.pre) refl r
   where
     seen : List Seen
-    seen = board axis tested t wants (length (enc t))
+    seen = rows_read axis tested t wants (length (enc t))
 
     go : (c : Ctx) → In c cs → In task (made_one axis counting seen c) → (o : Option Seen) → row_found seen c.pre ≡ o → (v : ℕ) × (v < length (enc t)) × (wants v ≡ true) × (f.0 ≡ seen_of axis tested t v) → Stands axis tested t cs counting h
     go c k j None e r = absurd (subst (λ z. In task (task_at axis counting c z)) e j)
     go c k j (Some own) e r =
         let v : ℕ = r.0 in
-        let own_is : own ≡ seen_of axis tested t c.pre = found-board axis tested t wants (length (enc t)) c.pre own e in
+        let own_is : own ≡ seen_of axis tested t c.pre = found-read axis tested t wants (length (enc t)) c.pre own e in
         let some : task_for axis (iter_for counting c) c.attr own ≡ Some task = listed-is task (task_for axis (iter_for counting c) c.attr own) (subst (λ z. In task (task_at axis counting c z)) e j) in
         let some2 : task_for axis (iter_for counting c) c.attr (seen_of axis tested t c.pre) ≡ Some task = ap (λ z. task_for axis (iter_for counting c) c.attr z) (sym own_is) ∙ some in
         let on : on_axis axis (path_with t c.pre c.attr) (row_path t v) ≡ true =
@@ -207,20 +207,20 @@ pub record Found (axis : Axis) (counting : Bool) (seen : List Seen) (cs : List C
 
 pub stands-to : (axis : Axis) (tested : NodeTest) (t : Tree TextId) (cs : List Ctx) (counting : Bool) (wants : ℕ → Bool) (h : Hit) → RowsTell t → is_chained axis ≡ false → length (enc t) < 4294967296 → ((c : Ctx) → In c cs → c.pre < length (enc t))
     → ((v : ℕ) → v < length (enc t) → wants v ≡ touched axis t (places cs) v)
-    → Stands axis tested t cs counting h → Found axis counting (board axis tested t wants (length (enc t))) cs h
+    → Stands axis tested t cs counting h → Found axis counting (rows_read axis tested t wants (length (enc t))) cs h
 stands-to axis tested t cs counting wants h b s n rows w x =
     let c : Ctx = x.ctx in
     let v : ℕ = x.row in
-    let seen : List Seen = board axis tested t wants (length (enc t)) in
+    let seen : List Seen = rows_read axis tested t wants (length (enc t)) in
     let l = rows c x.there in
     let look = looks-some (task_for axis (iter_for counting c) c.attr (seen_of axis tested t c.pre)) (seen_of axis tested t v) (looks-is axis tested t (iter_for counting c) c.pre c.attr v b s n l x.within ∙ x.on) in
     let task : Task = look.0 in
     let own = context-row axis cs c x.there (task-own axis (iter_for counting c) c.attr (seen_of axis tested t c.pre) task look.1) in
     let wc : wants c.pre ≡ true = w c.pre l ∙ touch-own axis t cs c.pre (not-near axis s) l own in
     let wv : wants v ≡ true = w v x.within ∙ touch-axis axis t cs c v b (not-near axis s) x.there l x.within x.on in
-    let one : made_one axis counting seen c ≡ task ∷ [] = ap (task_at axis counting c) (board-found axis tested t wants (length (enc t)) c.pre l wc) ∙ ap listed look.1 in
+    let one : made_one axis counting seen c ≡ task ∷ [] = ap (task_at axis counting c) (read-found axis tested t wants (length (enc t)) c.pre l wc) ∙ ap listed look.1 in
     record {
       task = task;
       made_in = made-in axis counting seen cs c task x.there (subst (λ z. In task z) (sym one) (inl refl));
-      finds = (seen_of axis tested t v, board-in axis tested t wants (length (enc t)) v x.within wv, x.lets_in, look.2, x.is ∙ ap (λ z. record { pre = v; attr = 0; iter = z }) (sym (task-iter axis (iter_for counting c) c.attr (seen_of axis tested t c.pre) task look.1)));
+      finds = (seen_of axis tested t v, read-in axis tested t wants (length (enc t)) v x.within wv, x.lets_in, look.2, x.is ∙ ap (λ z. record { pre = v; attr = 0; iter = z }) (sym (task-iter axis (iter_for counting c) c.attr (seen_of axis tested t c.pre) task look.1)));
     }

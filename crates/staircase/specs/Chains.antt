@@ -74,6 +74,7 @@ is_next a.PrecedingSibling s r = nat_eq s.level r.level && nat_eq r.pre (s.last 
 is_next a.FollowingSibling s r = nat_eq s.level r.level && nat_eq s.pre (r.last + 1)
 is_next _ s r = false
 
+-- this place, where its row comes next to row r
 abbrev pub where_next : Axis → List Seen → Seen → Option ℕ → Option ℕ
 where_next axis rows r None = None
 where_next axis rows r (Some j) = if is_next axis (row_at rows j) r then Some j else None
@@ -115,6 +116,7 @@ first_of_row axis rows links k = if begins_below axis then first_child rows k el
 abbrev pub start_of : Axis → List Seen → List (Option ℕ) → ℕ → ℕ → Option ℕ
 start_of axis rows links attr k = if begins_here axis (nat_eq attr 0) then Some k else (if nat_eq attr 0 then first_of_row axis rows links k else None)
 
+-- one place later
 abbrev pub one_later : Option ℕ → Option ℕ
 one_later None = None
 one_later (Some k) = Some (suc k)
@@ -124,14 +126,17 @@ abbrev pub place_found : List Seen → ℕ → Option ℕ
 place_found [] pre = None
 place_found (s ∷ ss) pre = if nat_eq s.pre pre then Some 0 else one_later (place_found ss pre)
 
+-- a chain, where it begins
 abbrev pub started : ℕ → Option ℕ → List Start
 started iter None = []
 started iter (Some k) = record { iter = iter; place = k } ∷ []
 
+-- the chain of a node whose row stands at this place
 abbrev pub starts_at : Axis → Bool → List Seen → List (Option ℕ) → Ctx → Option ℕ → List Start
 starts_at axis counting rows links c None = []
 starts_at axis counting rows links c (Some k) = started (iter_for counting c) (start_of axis rows links c.attr (turned axis (length rows) k))
 
+-- where the chain of a node begins
 abbrev pub starts_one : Axis → Bool → List Seen → List Seen → List (Option ℕ) → Ctx → List Start
 starts_one axis counting seen rows links c = starts_at axis counting rows links c (place_found seen c.pre)
 
@@ -158,15 +163,17 @@ pub record Walks (step : ℕ → Option ℕ) (counting : Bool) (rows : List Seen
   pub gains : Gains (OnChain step counting rows start) old new
   pub marked : Marked step counting rows marks new
 
+-- a place that the rest of a walk leads to
 abbrev pub Behind : (ℕ → Option ℕ) → Option ℕ → ℕ → Type 0
 Behind step None m = ⊥
 Behind step (Some k) m = Leads step k m
 
--- a place that comes before a walk's
+-- a place that a walk has passed
 abbrev pub Past : Option ℕ → ℕ → Type 0
 Past None k = Unit {0}
 Past (Some j) k = j < k
 
+-- a place of a walk is below this number
 abbrev pub Below : Option ℕ → ℕ → Type 0
 Below None n = Unit {0}
 Below (Some k) n = k < n
@@ -176,6 +183,7 @@ abbrev pub up_to : Option ℕ → ℕ
 up_to None = 0
 up_to (Some k) = suc k
 
+-- a place that a walk came to from its start
 abbrev pub OnWay : (ℕ → Option ℕ) → ℕ → Option ℕ → Type 0
 OnWay step start None = Unit {0}
 OnWay step start (Some k) = Leads step start k
