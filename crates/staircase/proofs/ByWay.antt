@@ -1,5 +1,5 @@
 -- The rows on the way to a row, and the siblings after it, by numbers of rows.
-use Rattle.std.proofs.Common.{inl, inr, ◌≡◌, ℕ, ◌+◌, ◌<◌, ◌≤◌, true, false, ◌&&◌, ◌||◌, List, [], ◌∷◌, ◌++◌, length, refl, sym, ap, ◌∙◌, arith, append-nil, length-append}
+use Rattle.std.proofs.Common.{inl, inr, ◌⊎◌, ◌≡◌, ℕ, ◌+◌, ◌<◌, ◌≤◌, true, false, ◌&&◌, ◌||◌, List, [], ◌∷◌, ◌++◌, length, refl, sym, ap, ◌∙◌, arith, append-nil, length-append}
 use Rattle.std.specs.Prelude.{nat_eq, nat_lt, nat_le}
 use Rattle.std.proofs.lemmas.Bool.{eq-eqb, eqb-true, lt-ltb, ltb-true, and_parts, and_from, or_left, or_right, or_cases, cases_order, false≢true, true≢false}
 use Rattle.std.proofs.lemmas.Bool.Decides.{nat_tests}
@@ -14,7 +14,7 @@ use Rattle.doc_table.specs.Touched.{by_way, on_way}
 use Rattle.doc_table.proofs.ByRows.{nested, same, by-self, by-ancestor}
 use Rattle.doc_table.proofs.Kids.{within-parts, within-from}
 use Rattle.doc_table.proofs.Marks.{is_prefix-self, is_less-self}
-use Rattle.doc_table.proofs.Ways.{row-of, rest-of, prefix-append, prefix-append_more, less-last, one-parent, begins-sibling}
+use Rattle.doc_table.proofs.Ways.{row-of, rest-of, prefix-append, prefix-append_more, less-last, one-parent, snoc-or-nil, begins-sibling}
 use Rattle.staircase.proofs.Children.{child-within}
 use Rattle.staircase.proofs.Some.{both_ways, below-some, some-below}
 
@@ -125,6 +125,22 @@ way-child t d v p b hd hv hp h l m =
                 absurd (omega arith))
           ]
         ])
+
+-- a row is the root or a child of some row
+pub parent-of : (t : Tree TextId) (v : ℕ) → RowsTell t → v < length (enc t) → (path_at t v ≡ []) ⊎ ((d : ℕ) × (d < length (enc t)) × (child (enc t) d v ≡ true))
+parent-of t v b hv = elim (snoc-or-nil (path_at t v)) [
+  | inl e ↦ inl e
+  | inr s ↦
+      (let d = row-of t v s.0 b hv (ap (is_prefix s.0) s.2 ∙ prefix-append s.0 (s.1 ∷ [])) in
+      inr (d.0, d.1, child-path t d.0 v s.1 b d.1 hv (s.2 ∙ ap (λ z. z ++ s.1 ∷ []) (sym d.2))))
+]
+
+-- what comes no later than a row is on the way to it where all that holds it holds the row
+pub way-where : (t : Tree TextId) (v p : ℕ) → RowsTell t → v < length (enc t) → p < length (enc t) → v ≤ p → ((x : ℕ) → x < v → v ≤ x + (line_in (enc t) x).size → p ≤ x + (line_in (enc t) x).size) → on_way t v p ≡ true
+way-where t v p b hv hp l f = elim (parent-of t v b hv) [
+  | inl e ↦ way-holds t v p b hv hp l (within-parts t v p (sym (b.prefix v p hv hp) ∙ ap (λ z. is_prefix z (path_at t p)) e)).1
+  | inr d ↦ way-child t d.0 v p b d.1 hv hp d.2 l (f d.0 (child-after t d.0 v d.2) (child-within (enc t) d.0 v d.2).1)
+]
 
 -- ---- siblings after a row
 
