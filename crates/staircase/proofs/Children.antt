@@ -17,20 +17,20 @@ pub record Nests (lines : List (Line TextId)) : Type 0 where
   pub ends : (c : ℕ) → c < length lines → c + (line_in lines c).size < length lines
   pub nested : (u w : ℕ) → u < w → w ≤ u + (line_in lines u).size → w < length lines → w + (line_in lines w).size ≤ u + (line_in lines u).size
 
-child-within : (lines : List (Line TextId)) (c w : ℕ) → child lines c w ≡ true → (c ≤ w) × (w ≤ c + (line_in lines c).size) × ((line_in lines w).level ≡ (line_in lines c).level + 1)
+pub child-within : (lines : List (Line TextId)) (c w : ℕ) → child lines c w ≡ true → (c ≤ w) × (w ≤ c + (line_in lines c).size) × ((line_in lines w).level ≡ (line_in lines c).level + 1)
 child-within lines c w e =
     let p = and_parts (within lines c w) (nat_eq (line_in lines w).level ((line_in lines c).level + 1)) e in
     let q = and_parts (nat_le c w) (nat_le w (c + (line_in lines c).size)) p.0 in
     (leb-true c w q.0, leb-true w (c + (line_in lines c).size) q.1, eqb-true (line_in lines w).level ((line_in lines c).level + 1) p.1)
 
-not-child : (lines : List (Line TextId)) (c w : ℕ) → (child lines c w ≡ true → ⊥) → child lines c w ≡ false
+pub not-child : (lines : List (Line TextId)) (c w : ℕ) → (child lines c w ≡ true → ⊥) → child lines c w ≡ false
 not-child lines c w f = go (child lines c w) refl
   where
     go : (b : Bool) → child lines c w ≡ b → b ≡ false
     go true e = absurd (f e)
     go false e = refl
 
-past-child : (lines : List (Line TextId)) (c w : ℕ) → c + (line_in lines c).size < w → child lines c w ≡ false
+pub past-child : (lines : List (Line TextId)) (c w : ℕ) → c + (line_in lines c).size < w → child lines c w ≡ false
 past-child lines c w l = not-child lines c w (λ e. (let p = child-within lines c w e in omega (arith, p.1)))
 
 -- no row still to come has a row before all of them as its child

@@ -18,33 +18,20 @@ use Rattle.staircase.specs.declared.kinds.Ctx.{Ctx}
 use Rattle.staircase.specs.declared.seen.Seen.{Seen}
 use Rattle.staircase.specs.Attributes.{attribute_parts}
 use Rattle.staircase.specs.Hits.{AppendsHits, ctx_of}
-use Rattle.staircase.specs.Joins.{Joins, Reaches, Ready, place_of, places}
-use Rattle.staircase.specs.Made.{made, row_found}
-use Rattle.staircase.specs.Parts.{In, AreRows}
-use Rattle.staircase.specs.Seen.{seen_of, AllSeen}
-use Rattle.staircase.specs.Tasks.{AddsAll, Finds}
+use Rattle.staircase.specs.Joins.{Joins, Reaches, Ready, Stands, place_of, places}
+use Rattle.staircase.specs.Made.{row_found}
+use Rattle.staircase.specs.Parts.{In}
+use Rattle.staircase.specs.Seen.{seen_of}
+use Rattle.staircase.specs.Tasks.{Gains}
 use Rattle.staircase.proofs.Attained.{attributes-complete}
-use Rattle.staircase.proofs.Boards.{board, board-rows, board-found, in-board}
+use Rattle.staircase.proofs.RowsRead.{read-found}
 use Rattle.staircase.proofs.Elements.{in-left, in-right, in-parts, in-contains, contains-in}
+use Rattle.staircase.proofs.Gathering.{own-touched, row-of, wanted}
 use Rattle.staircase.proofs.Naming.{node-at, passes-is, row-named, row-not_named}
 use Rattle.staircase.proofs.Owning.{Reached, attributes-sound}
-use Rattle.staircase.proofs.Rowing.{Stands, stands-from, stands-to, context-row, touch-own}
-use Rattle.staircase.proofs.Tallying.{row-of, not-lone}
+use Rattle.staircase.proofs.Rowing.{context-row}
+use Rattle.staircase.proofs.Tallying.{not-lone}
 use Rattle.staircase.proofs.Touching.{node-row}
-
-abbrev wanted : Axis → Tree TextId → List Ctx → ℕ → Bool
-wanted axis t cs = touched axis t (places cs)
-
--- ---- the list of rows that were read
-
-pub ready-rows : (axis : Axis) (test : NodeTest) (t : Tree TextId) (cs : List Ctx) (seen : List Seen) → length (enc t) < 4294967296 → seen ≡ board axis test t (wanted axis t cs) (length (enc t)) → AreRows seen
-ready-rows axis test t cs seen n e = subst AreRows (sym e) (board-rows axis test t (wanted axis t cs) (bridge t) n)
-
-pub ready-seen : (axis : Axis) (test : NodeTest) (t : Tree TextId) (cs : List Ctx) (seen : List Seen) → seen ≡ board axis test t (wanted axis t cs) (length (enc t)) → AllSeen axis test t seen
-ready-seen axis test t cs seen e s i =
-    let r = in-board axis test t (wanted axis t cs) (length (enc t)) s (subst (λ z. In s z) e i) in
-    let pre : s.pre ≡ r.0 = ap (λ (z : Seen). z.pre) r.3 in
-    (subst (λ z. z < length (enc t)) (sym pre) r.1, r.3 ∙ ap (seen_of axis test t) (sym pre))
 
 -- ---- rows
 
@@ -84,11 +71,11 @@ row-stands axis test t cs rows seen r h z name x =
 
 -- ---- all hits
 
-hit-reached : (axis : Axis) (test : NodeTest) (t : Tree TextId) (cs : List Ctx) (rows : List ℕ) (seen : List Seen) (first : List Hit) → Ready axis test t cs rows seen → AddsAll seen false (made axis false seen cs) [] first → (h : Hit) → In h (first ++ attribute_parts axis test t seen cs) → Reached axis test t cs (ctx_of h)
+hit-reached : (axis : Axis) (test : NodeTest) (t : Tree TextId) (cs : List Ctx) (rows : List ℕ) (seen : List Seen) (first : List Hit) → Ready axis test t cs rows seen → Gains (Stands axis test t cs false) [] first → (h : Hit) → In h (first ++ attribute_parts axis test t seen cs) → Reached axis test t cs (ctx_of h)
 hit-reached axis test t cs rows seen first r a h i = elim (in-parts h first (attribute_parts axis test t seen cs) i) [
   | inl x ↦ elim (a.sound h x) [
     | inl o ↦ absurd o
-    | inr f ↦ row-reached axis test t cs rows seen r h (stands-from axis test t cs false (wanted axis t cs) h f.0 (bridge t) r.span r.few (row-of axis t cs (bridge t) r.nodes) (subst (λ z. In f.0 (made axis false z cs)) r.seen_are f.1) (subst (λ z. Finds z false f.0 h) r.seen_are f.2))
+    | inr f ↦ row-reached axis test t cs rows seen r h f
   ]
   | inr y ↦ attributes-sound axis test t seen cs h (bridge t) r.sound r.nodes y
 ]
@@ -97,27 +84,26 @@ own-found : (axis : Axis) (test : NodeTest) (t : Tree TextId) (cs : List Ctx) (r
 own-found axis test t cs rows seen r c i e z =
     let l = row-of axis t cs (bridge t) r.nodes c i in
     let zero : nat_eq c.attr 0 ≡ true = ap (λ y. nat_eq y 0) z in
-    let on : touched axis t (places cs) c.pre ≡ true = touch-own axis t cs c.pre r.span l (context-row axis cs c i (or-first (nat_eq c.attr 0) _ zero)) in
-    ap (λ y. row_found y c.pre) r.seen_are ∙ board-found axis test t (wanted axis t cs) (length (enc t)) c.pre l on
+    let on : touched axis t (places cs) c.pre ≡ true = own-touched axis t cs c.pre l (context-row axis cs c i (or-first (nat_eq c.attr 0) _ zero)) in
+    ap (λ y. row_found y c.pre) r.seen_are ∙ read-found axis test t (wanted axis t cs) (length (enc t)) c.pre l on
   where
     or-first : (x y : Bool) → x ≡ true → (x || y) ≡ true
     or-first true y e = refl
     or-first false y e = absurd (false≢true e)
 
-reached-hit : (axis : Axis) (test : NodeTest) (t : Tree TextId) (cs : List Ctx) (rows : List ℕ) (seen : List Seen) (first : List Hit) → Ready axis test t cs rows seen → AddsAll seen false (made axis false seen cs) [] first → (h : Ctx) → names_node t (place_of h) ≡ true → Reaches axis test t cs h → In (record { pre = h.pre; attr = h.attr; iter = h.iter }) (first ++ attribute_parts axis test t seen cs)
+reached-hit : (axis : Axis) (test : NodeTest) (t : Tree TextId) (cs : List Ctx) (rows : List ℕ) (seen : List Seen) (first : List Hit) → Ready axis test t cs rows seen → Gains (Stands axis test t cs false) [] first → (h : Ctx) → names_node t (place_of h) ≡ true → Reaches axis test t cs h → In (record { pre = h.pre; attr = h.attr; iter = h.iter }) (first ++ attribute_parts axis test t seen cs)
 reached-hit axis test t cs rows seen first r a h name x = go (nat_eq h.attr 0) refl
   where
     go : (b : Bool) → nat_eq h.attr 0 ≡ b → In (record { pre = h.pre; attr = h.attr; iter = h.iter }) (first ++ attribute_parts axis test t seen cs)
     go true e =
         let hit : Hit = record { pre = h.pre; attr = h.attr; iter = h.iter } in
-        let f = stands-to axis test t cs false (wanted axis t cs) hit (bridge t) r.span r.few (row-of axis t cs (bridge t) r.nodes) (λ w m. refl) (row-stands axis test t cs rows seen r h (eqb-true h.attr 0 e) name x) in
-        in-left hit first (attribute_parts axis test t seen cs) (a.complete f.task (subst (λ z. In f.task (made axis false z cs)) (sym r.seen_are) f.made_in) hit (subst (λ z. Finds z false f.task hit) (sym r.seen_are) f.finds))
+        in-left hit first (attribute_parts axis test t seen cs) (a.complete hit (row-stands axis test t cs rows seen r h (eqb-true h.attr 0 e) name x))
     go false e =
         let hit : Hit = record { pre = h.pre; attr = h.attr; iter = h.iter } in
         let ne : h.attr ≡ 0 → ⊥ = eqb-false h.attr 0 e in
         in-right hit first (attribute_parts axis test t seen cs) (attributes-complete axis test t seen cs h (bridge t) r.sound r.nodes (λ c i g z. own-found axis test t cs rows seen r c i g z) name (omega (arith, ne)) x)
 
-pub joined : (axis : Axis) (test : NodeTest) (t : Tree TextId) (cs : List Ctx) (rows : List ℕ) (seen : List Seen) (first hits : List Hit) (old new : List Ctx) → Ready axis test t cs rows seen → AddsAll seen false (made axis false seen cs) [] first → hits ≡ first ++ attribute_parts axis test t seen cs → AppendsHits hits old new → Joins axis test t cs old new
+pub joined : (axis : Axis) (test : NodeTest) (t : Tree TextId) (cs : List Ctx) (rows : List ℕ) (seen : List Seen) (first hits : List Hit) (old new : List Ctx) → Ready axis test t cs rows seen → Gains (Stands axis test t cs false) [] first → hits ≡ first ++ attribute_parts axis test t seen cs → AppendsHits hits old new → Joins axis test t cs old new
 joined axis test t cs rows seen first hits old new r a e p =
     let more : List Ctx = p.more in
     let from : (c : Ctx) → In c more → Reached axis test t cs c = λ c i.

@@ -1,7 +1,7 @@
 -- What a node looks for between two numbers is what stands on its axis.
-use Rattle.std.proofs.Common.{inl, inr, ◌≡◌, ℕ, zero, suc, ◌+◌, ◌<◌, Bool, true, false, not, ◌&&◌, ◌||◌, length, refl, sym, ap, ◌∙◌, arith, Option, Some, None}
+use Rattle.std.proofs.Common.{◌≡◌, ℕ, zero, suc, ◌+◌, ◌<◌, Bool, true, false, not, ◌&&◌, ◌||◌, length, refl, sym, ◌∙◌, arith, Option, Some, None}
 use Rattle.std.specs.Prelude.{nat_eq, nat_lt, nat_le}
-use Rattle.std.proofs.lemmas.Bool.{ne_eqb, le-ltb, lt-ltb, lt-leb, cases_order, false≢true}
+use Rattle.std.proofs.lemmas.Bool.{ne_eqb, le-ltb, lt-ltb, true≢false}
 use Rattle.std.proofs.lemmas.Bool.Decides.{nat_tests}
 use Rattle.xq_base.specs.declared.item.TextId.{TextId}
 use Rattle.xq_base.specs.declared.axis.Axis.{Axis}
@@ -9,13 +9,13 @@ use Rattle.xq_base.specs.declared.axis.Axis.TheVariants as a
 use Rattle.xq_base.specs.declared.axis.NodeTest.{NodeTest}
 use Rattle.doc_table.specs.Tree.{Tree}
 use Rattle.doc_table.specs.Enc.{enc, line_in}
-use Rattle.doc_table.specs.Paths.{Path, is_same}
+use Rattle.doc_table.specs.Paths.{is_same}
 use Rattle.doc_table.specs.Axes.{on_axis, on_following, on_preceding}
 use Rattle.doc_table.specs.Places.{path_at, row_path, RowsTell}
-use Rattle.doc_table.proofs.ByRows.{same, by-self, by-child, by-descendant, by-descendant_or_self, by-following, by-preceding}
+use Rattle.doc_table.proofs.ByRows.{same, by-self, by-descendant, by-descendant_or_self, by-following, by-preceding}
 use Rattle.staircase.specs.declared.seen.Seen.{Seen}
 use Rattle.staircase.specs.declared.task.Task.{Task}
-use Rattle.staircase.specs.Joins.{is_span}
+use Rattle.staircase.specs.Joins.{is_chained, path_with}
 use Rattle.staircase.specs.Made.{task_for}
 use Rattle.staircase.specs.Tasks.{in_task}
 use Rattle.staircase.specs.Seen.{seen_of}
@@ -24,21 +24,8 @@ abbrev pub looks : Option Task → Seen → Bool
 looks None s = false
 looks (Some task) s = in_task task s
 
-abbrev pub path_with : Tree TextId → ℕ → ℕ → Path
-path_with t c k = record { steps = path_at t c; attr = k }
-
 self-is : (c v : ℕ) → ((nat_le c v && nat_lt v (c + 1)) && true) ≡ nat_eq c v
 self-is c v = grind (arith, nat_tests)
-
-child-is : (c v s lc lv : ℕ) → (v ≡ c → lv ≡ lc) → ((nat_le (c + 1) v && nat_lt v (c + s + 1)) && (nat_eq lv (lc + 1) && true)) ≡ ((nat_le c v && nat_le v (c + s)) && nat_eq lv (lc + 1))
-child-is c v s lc lv f = elim (cases_order v c) [
-  | inl e ↦ (let q = f e in rw (lt-leb (c + 1) v (omega arith), ne_eqb lv (lc + 1) (λ z. omega arith)) (both (nat_le c v && nat_le v (c + s))))
-  | inr o ↦ grind (arith, nat_tests)
-]
-  where
-    both : (b : Bool) → false ≡ (b && false)
-    both true = refl
-    both false = refl
 
 descendant-is : (c v s : ℕ) → ((nat_le (c + 1) v && nat_lt v (c + s + 1)) && true) ≡ (nat_lt c v && nat_le v (c + s))
 descendant-is c v s = grind (arith, nat_tests)
@@ -49,7 +36,7 @@ within-is c v s = grind (arith, nat_tests)
 following-is : (e v : ℕ) → v < 4294967295 → ((nat_le (e + 1) v && nat_lt v 4294967295) && true) ≡ nat_lt e v
 following-is e v l = grind (arith, nat_tests)
 
-preceding-is : (c v s : ℕ) → ((nat_le 0 v && nat_lt v c) && (true && nat_lt (v + s) c)) ≡ nat_lt (v + s) c
+preceding-is : (c v s : ℕ) → ((nat_le 0 v && nat_lt v c) && nat_lt (v + s) c) ≡ nat_lt (v + s) c
 preceding-is c v s = grind (arith, nat_tests)
 
 no_and : (b : Bool) → (b && false) ≡ false
@@ -78,11 +65,9 @@ before-is c v s = grind (arith, nat_tests)
 pub before-attribute : (t : Tree TextId) (c k v : ℕ) → RowsTell t → c < length (enc t) → v < length (enc t) → on_preceding (path_with t c (suc k)) (row_path t v) ≡ nat_lt (v + (line_in (enc t) v).size) c
 before-attribute t c k v b h l = rw (lt-ltb 0 (suc k) (omega arith), b.less v c l h, same t v c b l h, b.prefix v c l h) (before-is c v (line_in (enc t) v).size)
 
-pub looks-is : (axis : Axis) (tested : NodeTest) (t : Tree TextId) (i c k v : ℕ) → RowsTell t → is_span axis ≡ true → length (enc t) < 4294967296 → c < length (enc t) → v < length (enc t) → looks (task_for axis i k (seen_of axis tested t c)) (seen_of axis tested t v) ≡ on_axis axis (path_with t c k) (row_path t v)
+pub looks-is : (axis : Axis) (tested : NodeTest) (t : Tree TextId) (i c k v : ℕ) → RowsTell t → is_chained axis ≡ false → length (enc t) < 4294967296 → c < length (enc t) → v < length (enc t) → looks (task_for axis i k (seen_of axis tested t c)) (seen_of axis tested t v) ≡ on_axis axis (path_with t c k) (row_path t v)
 looks-is a.SelfNode tested t i c zero v b e n h l = self-is c v ∙ sym (by-self t c v b h l)
 looks-is a.SelfNode tested t i c (suc k) v b e n h l = rw (no_zero k) (sym (no_and (is_same (path_at t c) (path_at t v))))
-looks-is a.Child tested t i c zero v b e n h l = child-is c v (line_in (enc t) c).size (line_in (enc t) c).level (line_in (enc t) v).level (λ q. ap (λ z. (line_in (enc t) z).level) q) ∙ sym (by-child t c v b h l)
-looks-is a.Child tested t i c (suc k) v b e n h l = rw (no_zero k) refl
 looks-is a.Descendant tested t i c zero v b e n h l = descendant-is c v (line_in (enc t) c).size ∙ sym (by-descendant t c v b h l)
 looks-is a.Descendant tested t i c (suc k) v b e n h l = rw (no_zero k) refl
 looks-is a.DescendantOrSelf tested t i c zero v b e n h l = within-is c v (line_in (enc t) c).size ∙ sym (by-descendant_or_self t c v b h l)
@@ -93,8 +78,9 @@ looks-is a.Preceding tested t i c zero v b e n h l = preceding-is c v (line_in (
 looks-is a.Preceding tested t i c (suc k) v b e n h l = preceding-is c v (line_in (enc t) v).size ∙ sym (before-attribute t c k v b h l)
 looks-is a.Attribute tested t i c zero v b e n h l = refl
 looks-is a.Attribute tested t i c (suc k) v b e n h l = rw (no_zero k) refl
-looks-is a.Parent tested t i c k v b e n h l = absurd (false≢true e)
-looks-is a.Ancestor tested t i c k v b e n h l = absurd (false≢true e)
-looks-is a.AncestorOrSelf tested t i c k v b e n h l = absurd (false≢true e)
-looks-is a.FollowingSibling tested t i c k v b e n h l = absurd (false≢true e)
-looks-is a.PrecedingSibling tested t i c k v b e n h l = absurd (false≢true e)
+looks-is a.Child tested t i c k v b e n h l = absurd (true≢false e)
+looks-is a.Parent tested t i c k v b e n h l = absurd (true≢false e)
+looks-is a.Ancestor tested t i c k v b e n h l = absurd (true≢false e)
+looks-is a.AncestorOrSelf tested t i c k v b e n h l = absurd (true≢false e)
+looks-is a.FollowingSibling tested t i c k v b e n h l = absurd (true≢false e)
+looks-is a.PrecedingSibling tested t i c k v b e n h l = absurd (true≢false e)

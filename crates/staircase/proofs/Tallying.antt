@@ -9,7 +9,7 @@ use Rattle.xq_base.specs.declared.axis.NodeTest.{NodeTest}
 use Rattle.doc_table.specs.Tree.{Tree}
 use Rattle.doc_table.specs.Enc.{enc}
 use Rattle.doc_table.specs.Axes.{id_eq, on_axis}
-use Rattle.doc_table.specs.Places.{Place, names_node, node_at, is_lone, row_path, RowsTell}
+use Rattle.doc_table.specs.Places.{Place, names_node, node_at, is_lone, row_path}
 use Rattle.doc_table.specs.Sound.{is_sound}
 use Rattle.doc_table.specs.Spine.{is_empty_id}
 use Rattle.doc_table.specs.Touched.{count, counts, is_context, is_result, touched, touched_rows, some_place}
@@ -19,24 +19,19 @@ use Rattle.staircase.specs.declared.kinds.Ctx.{Ctx}
 use Rattle.staircase.specs.declared.seen.Seen.{Seen}
 use Rattle.staircase.specs.Ahead.{has, UpFrom}
 use Rattle.staircase.specs.Hits.{Ascending, all_after, ctx_of}
-use Rattle.staircase.specs.Joins.{AreNodes, IsCount, Ready, place_of, places, row_hit, tally_of}
-use Rattle.staircase.specs.Made.{made}
+use Rattle.staircase.specs.Joins.{IsCount, Ready, Stands, path_with, place_of, places, row_hit, tally_of}
 use Rattle.staircase.specs.Parts.{In}
 use Rattle.staircase.specs.Seen.{seen_of}
-use Rattle.staircase.specs.Tasks.{AddsAll, Finds, lets}
+use Rattle.staircase.specs.Tasks.{Gains, lets}
 use Rattle.staircase.proofs.Coming.{has-below}
 use Rattle.staircase.proofs.Counting.{count-hits, count-parts, row_ctx}
 use Rattle.staircase.proofs.Elements.{in-contains, contains-in}
-use Rattle.staircase.proofs.Looking.{path_with}
+use Rattle.staircase.proofs.Gathering.{axis-touched, own-touched, row-of}
 use Rattle.staircase.proofs.Naming.{node-at, is-node, lone-none, row-named, row-not_named}
-use Rattle.staircase.proofs.Rowing.{Stands, stands-from, stands-to, touch-own, touch-axis}
 use Rattle.staircase.proofs.Some.{has-in, in-has, place-in_some, some-place_in}
-use Rattle.staircase.proofs.Touching.{node-row, own-is, own-up}
+use Rattle.staircase.proofs.Touching.{own-is, own-up}
 
 -- ---- results
-
-pub row-of : (axis : Axis) (t : Tree TextId) (cs : List Ctx) → RowsTell t → AreNodes t cs → (c : Ctx) → In c cs → c.pre < length (enc t)
-row-of axis t cs b nodes c i = node-row t (place_of c) b (nodes c i)
 
 -- a row on the axis of a node of the context
 abbrev pub OnAxis : Axis → Tree TextId → List Ctx → ℕ → Type 0
@@ -69,27 +64,18 @@ not-lone axis test t v s l counting e = go (is_lone t) refl counting e
     go true q true e = absurd (false≢true (sym (lone-none axis test t v s q l).1 ∙ e))
     go true q false e = absurd (false≢true (sym (lone-none axis test t v s q l).0 ∙ e))
 
-abbrev wanted : Axis → Tree TextId → List Ctx → ℕ → Bool
-wanted axis t cs = touched axis t (places cs)
-
 -- a counted row that is gathered
-counted-from : (axis : Axis) (test : NodeTest) (t : Tree TextId) (cs : List Ctx) (rows : List ℕ) (seen : List Seen) → Ready axis test t cs rows seen → (old new : List Hit) → AddsAll seen true (made axis true seen cs) old new → (h : Hit) → In h new → In h old ⊎ ((v : ℕ) × (v < length (enc t)) × (is_result axis t (places cs) v ≡ true) × (h ≡ row_hit v))
+counted-from : (axis : Axis) (test : NodeTest) (t : Tree TextId) (cs : List Ctx) (rows : List ℕ) (seen : List Seen) → Ready axis test t cs rows seen → (old new : List Hit) → Gains (Stands axis test t cs true) old new → (h : Hit) → In h new → In h old ⊎ ((v : ℕ) × (v < length (enc t)) × (is_result axis t (places cs) v ≡ true) × (h ≡ row_hit v))
 counted-from axis test t cs rows seen r old new a h i = elim (a.sound h i) [
   | inl o ↦ inl o
-  | inr f ↦ (let b = bridge t in
-      let s = stands-from axis test t cs true (wanted axis t cs) h f.0 b r.span r.few (row-of axis t cs b r.nodes)
-      (subst (λ z. In f.0 (made axis true z cs)) r.seen_are f.1) (subst (λ z. Finds z true f.0 h) r.seen_are f.2) in
-      let l = not-lone axis test t s.row r.sound s.within true s.lets_in in
+  | inr s ↦ (let l = not-lone axis test t s.row r.sound s.within true s.lets_in in
       inr (s.row, s.within, result-from axis t cs s.row l s.within (s.ctx, s.there, s.on), s.is))
 ]
 
-counted-to : (axis : Axis) (test : NodeTest) (t : Tree TextId) (cs : List Ctx) (rows : List ℕ) (seen : List Seen) → Ready axis test t cs rows seen → (old new : List Hit) → AddsAll seen true (made axis true seen cs) old new → (v : ℕ) → v < length (enc t) → is_result axis t (places cs) v ≡ true → In (row_hit v) new
+counted-to : (axis : Axis) (test : NodeTest) (t : Tree TextId) (cs : List Ctx) (rows : List ℕ) (seen : List Seen) → Ready axis test t cs rows seen → (old new : List Hit) → Gains (Stands axis test t cs true) old new → (v : ℕ) → v < length (enc t) → is_result axis t (places cs) v ≡ true → In (row_hit v) new
 counted-to axis test t cs rows seen r old new a v l e =
-    let b = bridge t in
     let o = result-to axis t cs v e in
-    let s : Stands axis test t cs true (row_hit v) = record { ctx = o.1.0; there = o.1.1; row = v; within = l; lets_in = is-node axis test t v (node-at t v r.sound o.0 l); on = o.1.2; is = refl } in
-    let f = stands-to axis test t cs true (wanted axis t cs) (row_hit v) b r.span r.few (row-of axis t cs b r.nodes) (λ w m. refl) s in
-    a.complete f.task (subst (λ z. In f.task (made axis true z cs)) (sym r.seen_are) f.made_in) (row_hit v) (subst (λ z. Finds z true f.task (row_hit v)) (sym r.seen_are) f.finds)
+    a.complete (row_hit v) (record { ctx = o.1.0; there = o.1.1; row = v; within = l; lets_in = is-node axis test t v (node-at t v r.sound o.0 l); on = o.1.2; is = refl })
 
 -- ---- counts
 
@@ -133,7 +119,7 @@ rows-hit v [] i = absurd i
 rows-hit v (x ∷ xs) i = elim i [ inl e ↦ inl (ap row_hit e) | inr y ↦ inr (rows-hit v xs y) ]
 
 pub tally-is : (axis : Axis) (test : NodeTest) (t : Tree TextId) (cs : List Ctx) (rows : List ℕ) (seen : List Seen) (found before both : List Hit) (result other skipped : ℕ) → Ready axis test t cs rows seen
-    → AddsAll seen true (made axis true seen cs) [] found → IsCount found result → before ≡ [] ++ map row_hit rows → AddsAll seen true (made axis true seen cs) before both → IsCount both other → skipped ≡ length seen - other
+    → Gains (Stands axis test t cs true) [] found → IsCount found result → before ≡ [] ++ map row_hit rows → Gains (Stands axis test t cs true) before both → IsCount both other → skipped ≡ length seen - other
     → record { context = length rows; result = result; skipped = skipped; read = length seen } ≡ tally_of (counts axis t (places cs))
 tally-is axis test t cs rows seen found before both result other skipped r a c e d f g =
     let b = bridge t in
@@ -156,8 +142,8 @@ tally-is axis test t cs rows seen found before both result other skipped r a c e
     ]) in
     let read : length seen ≡ count (touched axis t (places cs)) m = ap length r.seen_are ∙ length-map (touched_rows axis t (places cs)) (seen_of axis test t) in
     let parts = count-parts (touched axis t (places cs)) p m (λ v l q. elim (or_cases (is_context axis (places cs) v) (is_result axis t (places cs) v) q) [
-      | inl x ↦ touch-own axis t cs v r.span l x
-      | inr x ↦ (let o = result-to axis t cs v x in touch-axis axis t cs o.1.0 v b r.span o.1.1 (row-of axis t cs b r.nodes o.1.0 o.1.1) l o.1.2)
+      | inl x ↦ own-touched axis t cs v l x
+      | inr x ↦ (let o = result-to axis t cs v x in axis-touched axis t cs o.1.0 v o.1.1 (row-of axis t cs b r.nodes o.1.0 o.1.1) l o.1.2)
     ]) in
     let skip : skipped ≡ count (λ v. touched axis t (places cs) v && not (p v)) m = omega (arith, g, read, oth, parts) in
     ap (λ z. record { context = z; result = result; skipped = skipped; read = length seen }) context

@@ -1,17 +1,15 @@
 -- What tasks find.
-use Rattle.std.proofs.Common.{inl, inr, ◌⊎◌, ◌≡◌, ℕ, zero, suc, ◌+◌, ◌<◌, ◌≤◌, Bool, true, false, ◌&&◌, cond, List, [], ◌∷◌, ◌++◌, length, take, drop, refl, sym, ap, ◌∙◌, subst, arith, Option, Some, None, IsPermutation}
-use Rattle.std.specs.Prelude.{nat_eq, nat_lt, nat_le, is_none, slice_index_or}
-use Rattle.std.proofs.Math.Seq.{take-suc}
-use Rattle.std.proofs.lemmas.List.Sorted.{Contains-permutation, IsPermutation-sym}
-use Rattle.std.proofs.lemmas.List.{append-nil, drop_all, take_all}
+use Rattle.std.proofs.Common.{inl, inr, ◌⊎◌, ◌≡◌, ℕ, zero, suc, ◌<◌, ◌≤◌, Bool, true, false, ◌&&◌, cond, List, [], ◌∷◌, ◌++◌, length, drop, refl, sym, ap, ◌∙◌, subst, arith, Option, Some, None}
+use Rattle.std.specs.Prelude.{nat_eq, nat_lt, nat_le, slice_index_or}
+use Rattle.std.proofs.lemmas.List.{append-nil, drop_all}
 use Rattle.std.proofs.lemmas.Bool.{eq-eqb, ne_eqb, eqb-true, cases_order, lt-ltb, le-leb, leb-true, ltb-true, and_parts, and_from, false≢true}
 use Rattle.staircase.specs.declared.hits.Hit.{Hit}
 use Rattle.staircase.specs.declared.seen.Seen.{Seen}
 use Rattle.staircase.specs.declared.task.Task.{Task}
 use Rattle.staircase.specs.Parts.{In, Between, IsRising, Splits}
 use Rattle.staircase.specs.Made.{row_found}
-use Rattle.staircase.specs.Tasks.{Adds, AddsAll, AllOf, Goes, Finds, found, lets, keeps, hit_in, covers, limit_covers, at_level, ends_before}
-use Rattle.staircase.proofs.Elements.{in-left, in-right, in-parts, in-contains, contains-in}
+use Rattle.staircase.specs.Tasks.{Adds, AllOf, Goes, Finds, found, lets, keeps, hit_in, covers, limit_covers, ends_before}
+use Rattle.staircase.proofs.Elements.{in-left, in-right, in-parts}
 use Rattle.staircase.proofs.Parting.{same-at}
 
 -- at the end of a list all of it came
@@ -57,29 +55,22 @@ adds-found seen part counting task old new b e = record {
 -- what a task finds that another one covers, the other one finds
 pub covered : (seen : List Seen) (counting : Bool) (task other : Task) (h : Hit) → covers task other ≡ true → Finds seen counting other h → Finds seen counting task h
 covered seen counting task other h c f =
-    let a = and_parts (nat_eq task.iter other.iter) (nat_le task.first other.first && (nat_le other.end task.end && (is_none task.level && limit_covers task.limit other.limit))) c in
-    let b = and_parts (nat_le task.first other.first) (nat_le other.end task.end && (is_none task.level && limit_covers task.limit other.limit)) a.1 in
-    let d = and_parts (nat_le other.end task.end) (is_none task.level && limit_covers task.limit other.limit) b.1 in
-    let g = and_parts (is_none task.level) (limit_covers task.limit other.limit) d.1 in
+    let a = and_parts (nat_eq task.iter other.iter) (nat_le task.first other.first && (nat_le other.end task.end && limit_covers task.limit other.limit)) c in
+    let b = and_parts (nat_le task.first other.first) (nat_le other.end task.end && limit_covers task.limit other.limit) a.1 in
+    let d = and_parts (nat_le other.end task.end) (limit_covers task.limit other.limit) b.1 in
     let iter : task.iter ≡ other.iter = eqb-true task.iter other.iter a.0 in
     let s : Seen = f.0 in
     let p = and_parts (nat_le other.first s.pre && nat_lt s.pre other.end) (keeps other s) f.3 in
     let q = and_parts (nat_le other.first s.pre) (nat_lt s.pre other.end) p.0 in
-    let k = and_parts (at_level other.level s) (ends_before other.limit s) p.1 in
     let lo : task.first ≤ s.pre = omega (arith, leb-true task.first other.first b.0, leb-true other.first s.pre q.0) in
     let hi : s.pre < task.end = omega (arith, leb-true other.end task.end d.0, ltb-true s.pre other.end q.1) in (
       s,
       f.1,
       f.2,
-      and_from (nat_le task.first s.pre && nat_lt s.pre task.end) (keeps task s) (and_from (nat_le task.first s.pre) (nat_lt s.pre task.end) (le-leb task.first s.pre lo) (lt-ltb s.pre task.end hi))
-          (and_from (at_level task.level s) (ends_before task.limit s) (level task.level g.0) (limit task.limit other.limit g.1 k.1)),
+      and_from (nat_le task.first s.pre && nat_lt s.pre task.end) (keeps task s) (and_from (nat_le task.first s.pre) (nat_lt s.pre task.end) (le-leb task.first s.pre lo) (lt-ltb s.pre task.end hi)) (limit task.limit other.limit d.1 p.1),
       f.4 ∙ ap (λ z. hit_in z s) (sym iter),
     )
   where
-    level : (l : Option ℕ) → is_none l ≡ true → at_level l f.0 ≡ true
-    level None e = refl
-    level (Some x) e = absurd (false≢true e)
-
     limit : (l o : Option ℕ) → limit_covers l o ≡ true → ends_before o f.0 ≡ true → ends_before l f.0 ≡ true
     limit None o e r = refl
     limit (Some x) None e r = absurd (false≢true e)
@@ -95,44 +86,6 @@ go-covered seen counting before task hits c a = record {
 
 pub go-done : (seen : List Seen) (counting : Bool) (before : Option Task) (task : Task) (old new : List Hit) → Adds seen counting task old new → Goes seen counting before (Some task) task old new
 go-done seen counting before task old new a = record { adds = a; all = a.complete }
-
-adds-more : (seen : List Seen) (counting : Bool) (tasks : List Task) (task : Task) (old mid new : List Hit) → AddsAll seen counting tasks old mid → Adds seen counting task mid new → AddsAll seen counting (tasks ++ task ∷ []) old new
-adds-more seen counting tasks task old mid new a b = record {
-  kept = λ h k. b.kept h (a.kept h k);
-  sound = λ h k. elim (b.sound h k) [
-    | inl m ↦ elim (a.sound h m) [ inl o ↦ inl o | inr t ↦ inr (t.0, in-left t.0 tasks (task ∷ []) t.1, t.2) ]
-    | inr f ↦ inr (task, in-right task tasks (task ∷ []) (inl refl), f)
-  ];
-  complete = λ t i h f. elim (in-parts t tasks (task ∷ []) i) [
-    | inl x ↦ b.kept h (a.complete t x h f)
-    | inr y ↦ elim y [ inl e ↦ b.complete h (subst (λ (z : Task). Finds seen counting z h) e f) | inr z ↦ absurd z ]
-  ];
-}
-
-pub adds-step : (seen : List Seen) (counting : Bool) (ts : List Task) (k : ℕ) (task : Task) (d : Task) (old mid new : List Hit) → k < length ts → task ≡ slice_index_or ts k d → AddsAll seen counting (take k ts) old mid → Adds seen counting task mid new → AddsAll seen counting (take (k + 1) ts) old new
-adds-step seen counting ts k task d old mid new l e a b =
-    let one : k + 1 ≡ suc k = omega arith in
-    let more : take (k + 1) ts ≡ take k ts ++ task ∷ [] = ap (λ z. take z ts) one ∙ take-suc ts k d l ∙ ap (λ (z : Task). take k ts ++ z ∷ []) (sym e) in
-    subst (λ z. AddsAll seen counting z old new) (sym more) (adds-more seen counting (take k ts) task old mid new a b)
-
-pub adds-none : (seen : List Seen) (counting : Bool) (ts : List Task) (old : List Hit) → AddsAll seen counting (take 0 ts) old old
-adds-none seen counting ts old = record { kept = λ h k. k; sound = λ h k. inl k; complete = λ t i h f. absurd (none t ts i) }
-  where
-    none : (t : Task) (ts : List Task) → In t (take 0 ts) → ⊥
-    none t [] i = i
-    none t (x ∷ ts) i = i
-
-pub adds-whole : (seen : List Seen) (counting : Bool) (tasks ts : List Task) (k : ℕ) (old new : List Hit) → IsPermutation tasks ts → length ts ≤ k → AddsAll seen counting (take k ts) old new → AddsAll seen counting tasks old new
-adds-whole seen counting tasks ts k old new p l a =
-    let whole : take k ts ≡ ts = take_all k ts l in
-    record {
-      kept = a.kept;
-      sound = λ h i. elim (a.sound h i) [
-        | inl o ↦ inl o
-        | inr t ↦ inr (t.0, contains-in t.0 tasks (Contains-permutation ts tasks t.0 (IsPermutation-sym tasks ts p) (in-contains t.0 ts (subst (λ z. In t.0 z) whole t.1))), t.2)
-      ];
-      complete = λ t i h f. a.complete t (subst (λ z. In t z) (sym whole) (contains-in t ts (Contains-permutation tasks ts t p (in-contains t tasks i)))) h f;
-    }
 
 -- ---- the row of a node
 

@@ -7,11 +7,11 @@ use Rattle.staircase.specs.declared.frames.Frame.{Frame}
 use Rattle.staircase.specs.Ahead.{any, Comes}
 use Rattle.staircase.specs.Passes.{earlier}
 
-abbrev pub first_frame : List Frame → Option Frame
+abbrev pub first_frame : {F : Type 0} → List F → Option F
 first_frame [] = None
 first_frame (f ∷ fs) = Some f
 
-abbrev pub rest_frames : List Frame → List Frame
+abbrev pub rest_frames : {F : Type 0} → List F → List F
 rest_frames [] = []
 rest_frames (f ∷ fs) = fs
 

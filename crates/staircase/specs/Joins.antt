@@ -4,8 +4,9 @@ use Rattle.xq_base.specs.declared.item.TextId.{TextId}
 use Rattle.xq_base.specs.declared.axis.Axis.{Axis}
 use Rattle.xq_base.specs.declared.axis.NodeTest.{NodeTest}
 use Rattle.doc_table.specs.Tree.{Tree}
-use Rattle.doc_table.specs.Axes.{id_eq, test_of, steps_to}
-use Rattle.doc_table.specs.Places.{Place, names_node, node_at}
+use Rattle.doc_table.specs.Axes.{id_eq, on_axis, test_of, steps_to}
+use Rattle.doc_table.specs.Places.{Place, names_node, node_at, path_at, row_path}
+use Rattle.doc_table.specs.Paths.{Path}
 use Rattle.doc_table.specs.Touched.{Counts, adds_owner, touched_rows}
 use Rattle.doc_table.specs.Enc.{enc}
 use Rattle.doc_table.specs.Sound.{is_sound}
@@ -17,7 +18,9 @@ use Rattle.staircase.specs.Seen.{seen_of}
 use Rattle.staircase.specs.declared.kinds.Ctx.{Ctx}
 use Rattle.staircase.specs.declared.kinds.Tally.{Tally}
 use Rattle.staircase.specs.Hits.{Ascending, AppendsHits}
+use Rattle.staircase.specs.Made.{iter_for}
 use Rattle.staircase.specs.Parts.{In}
+use Rattle.staircase.specs.Tasks.{lets}
 
 abbrev pub place_of : Ctx → Place
 place_of c = record { pre = c.pre; attr = c.attr }
@@ -71,20 +74,20 @@ own axis cs = rows_from true (adds_owner axis) None cs
 abbrev pub owning : List Ctx → List ℕ
 owning cs = rows_from false true None cs
 
--- the axes whose rows stand between two numbers, and the one without rows
-abbrev pub is_span : Axis → Bool
-is_span a.SelfNode = true
-is_span a.Child = true
-is_span a.Descendant = true
-is_span a.DescendantOrSelf = true
-is_span a.Following = true
-is_span a.Preceding = true
-is_span a.Attribute = true
-is_span a.Parent = false
-is_span a.Ancestor = false
-is_span a.AncestorOrSelf = false
-is_span a.FollowingSibling = false
-is_span a.PrecedingSibling = false
+-- the axes whose rows stand on chains; those of the others stand between two numbers
+abbrev pub is_chained : Axis → Bool
+is_chained a.Child = true
+is_chained a.Parent = true
+is_chained a.Ancestor = true
+is_chained a.AncestorOrSelf = true
+is_chained a.FollowingSibling = true
+is_chained a.PrecedingSibling = true
+is_chained a.SelfNode = false
+is_chained a.Descendant = false
+is_chained a.DescendantOrSelf = false
+is_chained a.Following = false
+is_chained a.Preceding = false
+is_chained a.Attribute = false
 
 -- the rows of the context and the rows that the step reads, as they were found
 pub record Ready (axis : Axis) (test : NodeTest) (t : Tree TextId) (cs : List Ctx) (rows : List ℕ) (seen : List Seen) : Type 0 where
@@ -92,9 +95,22 @@ pub record Ready (axis : Axis) (test : NodeTest) (t : Tree TextId) (cs : List Ct
   pub sound : is_sound id_eq is_empty_id t ≡ true
   pub ascending : Ascending cs
   pub nodes : AreNodes t cs
-  pub span : is_span axis ≡ true
   pub rows_are : rows ≡ own axis cs
   pub seen_are : seen ≡ map (seen_of axis test t) (touched_rows axis t (places cs))
+
+-- the path of a row, or of an attribute of it
+abbrev pub path_with : Tree TextId → ℕ → ℕ → Path
+path_with t c k = record { steps = path_at t c; attr = k }
+
+-- the hit is a row on the axis of a node of the context, and is one of those that come in question
+pub record Stands (axis : Axis) (test : NodeTest) (t : Tree TextId) (cs : List Ctx) (counting : Bool) (h : Hit) : Type 0 where
+  pub ctx : Ctx
+  pub there : In ctx cs
+  pub row : ℕ
+  pub within : row < length (enc t)
+  pub lets_in : lets counting (seen_of axis test t row) ≡ true
+  pub on : on_axis axis (path_with t ctx.pre ctx.attr) (row_path t row) ≡ true
+  pub is : h ≡ record { pre = row; attr = 0; iter = iter_for counting ctx }
 
 -- as many as the hits have, each once
 pub record IsCount (hits : List Hit) (n : ℕ) : Type 0 where
@@ -121,3 +137,17 @@ abbrev pub is_down : Axis → Bool
 is_down a.Descendant = true
 is_down a.DescendantOrSelf = true
 is_down _ = false
+
+-- the axes that touch the rows on the way to those of the context
+abbrev pub is_near : Axis → Bool
+is_near a.Parent = true
+is_near a.Ancestor = true
+is_near a.AncestorOrSelf = true
+is_near a.PrecedingSibling = true
+is_near a.FollowingSibling = true
+is_near _ = false
+
+-- the axis that touches the siblings after the rows of the context as well
+abbrev pub adds_siblings : Axis → Bool
+adds_siblings a.FollowingSibling = true
+adds_siblings _ = false

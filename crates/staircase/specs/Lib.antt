@@ -1,9 +1,11 @@
 pub mod Ahead
 pub mod Attributes
+pub mod Chains
 pub mod Frames
 pub mod Hits
 pub mod Joins
 pub mod Made
+pub mod Near
 pub mod Parts
 pub mod Passes
 pub mod Samples

@@ -17,12 +17,11 @@ where_row attr t = if nat_eq attr 0 then t else None
 -- the rows that a node of this row or attribute looks for on an axis, where they stand between two
 -- numbers
 abbrev pub task_for : Axis → ℕ → ℕ → Seen → Option Task
-task_for a.SelfNode iter attr own = where_row attr (Some (record { iter = iter; first = own.pre; end = own.pre + 1; level = None; limit = None }))
-task_for a.Child iter attr own = where_row attr (Some (record { iter = iter; first = own.pre + 1; end = own.last + 1; level = Some (own.level + 1); limit = None }))
-task_for a.Descendant iter attr own = where_row attr (Some (record { iter = iter; first = own.pre + 1; end = own.last + 1; level = None; limit = None }))
-task_for a.DescendantOrSelf iter attr own = where_row attr (Some (record { iter = iter; first = own.pre; end = own.last + 1; level = None; limit = None }))
-task_for a.Following iter attr own = Some (record { iter = iter; first = (if nat_eq attr 0 then own.last else own.pre) + 1; end = 2 ^ 32 - 1; level = None; limit = None })
-task_for a.Preceding iter attr own = Some (record { iter = iter; first = 0; end = own.pre; level = None; limit = Some own.pre })
+task_for a.SelfNode iter attr own = where_row attr (Some (record { iter = iter; first = own.pre; end = own.pre + 1; limit = None }))
+task_for a.Descendant iter attr own = where_row attr (Some (record { iter = iter; first = own.pre + 1; end = own.last + 1; limit = None }))
+task_for a.DescendantOrSelf iter attr own = where_row attr (Some (record { iter = iter; first = own.pre; end = own.last + 1; limit = None }))
+task_for a.Following iter attr own = Some (record { iter = iter; first = (if nat_eq attr 0 then own.last else own.pre) + 1; end = 2 ^ 32 - 1; limit = None })
+task_for a.Preceding iter attr own = Some (record { iter = iter; first = 0; end = own.pre; limit = Some own.pre })
 task_for _ iter attr own = None
 
 abbrev pub listed : Option Task → List Task

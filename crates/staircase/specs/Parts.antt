@@ -37,3 +37,4 @@ pub record IsSmall (s : Seen) : Type 0 where
 pub record AreRows (seen : List Seen) : Type 0 where
   pub rising : IsRising seen
   pub small : (s : Seen) → In s seen → IsSmall s
+  pub order : (s : Seen) → In s seen → s.pre ≤ s.last

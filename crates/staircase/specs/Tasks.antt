@@ -1,20 +1,16 @@
 -- What a node of a context looks for among the rows that were read (own rule).
-use Rattle.std.specs.Prelude.{ℕ, ◌≡◌, ◌⊎◌, Bool, true, false, ◌&&◌, if◌then◌else◌, List, [], ◌∷◌, ◌++◌, Option, Some, None, is_none, nat_eq, nat_lt, nat_le}
+use Rattle.std.specs.Prelude.{ℕ, ◌≡◌, ◌⊎◌, Bool, true, false, ◌&&◌, if◌then◌else◌, List, [], ◌∷◌, ◌++◌, Option, Some, None, nat_eq, nat_lt, nat_le}
 use Rattle.staircase.specs.declared.hits.Hit.{Hit}
 use Rattle.staircase.specs.declared.seen.Seen.{Seen}
 use Rattle.staircase.specs.declared.task.Task.{Task}
 use Rattle.staircase.specs.Parts.{In}
-
-abbrev pub at_level : Option ℕ → Seen → Bool
-at_level None s = true
-at_level (Some level) s = nat_eq s.level level
 
 abbrev pub ends_before : Option ℕ → Seen → Bool
 ends_before None s = true
 ends_before (Some limit) s = nat_lt s.last limit
 
 abbrev pub keeps : Task → Seen → Bool
-keeps task s = at_level task.level s && ends_before task.limit s
+keeps task s = ends_before task.limit s
 
 -- the row is among those that the task looks for
 abbrev pub in_task : Task → Seen → Bool
@@ -27,7 +23,7 @@ limit_covers (Some limit) (Some other) = nat_le other limit
 
 -- the first task looks for all rows that the second one looks for, in the same iteration
 abbrev pub covers : Task → Task → Bool
-covers task other = nat_eq task.iter other.iter && (nat_le task.first other.first && (nat_le other.end task.end && (is_none task.level && limit_covers task.limit other.limit)))
+covers task other = nat_eq task.iter other.iter && (nat_le task.first other.first && (nat_le other.end task.end && limit_covers task.limit other.limit))
 
 -- the rows that come in question: nodes where they are counted, else those that pass the node test
 abbrev pub lets : Bool → Seen → Bool
@@ -40,11 +36,19 @@ hit_in iter s = record { pre = s.pre; attr = 0; iter = iter }
 abbrev pub Finds : List Seen → Bool → Task → Hit → Type 0
 Finds seen counting task h = (s : Seen) × In s seen × (lets counting s ≡ true) × (in_task task s ≡ true) × (h ≡ hit_in task.iter s)
 
--- the hits of this task come to those that there are
-pub record Adds (seen : List Seen) (counting : Bool) (task : Task) (old new : List Hit) : Type 0 where
+-- exactly the hits that are found come to those that there are
+pub record Gains (finds : Hit → Type 0) (old new : List Hit) : Type 0 where
   pub kept : (h : Hit) → In h old → In h new
-  pub sound : (h : Hit) → In h new → In h old ⊎ Finds seen counting task h
-  pub complete : (h : Hit) → Finds seen counting task h → In h new
+  pub sound : (h : Hit) → In h new → In h old ⊎ finds h
+  pub complete : (h : Hit) → finds h → In h new
+
+-- an element of a list finds the hit
+abbrev pub AnyOf : {X : Type 0} → (X → Hit → Type 0) → List X → Hit → Type 0
+AnyOf {X} finds xs h = (x : X) × In x xs × finds x h
+
+-- the hits of this task come to those that there are
+abbrev pub Adds : List Seen → Bool → Task → List Hit → List Hit → Type 0
+Adds seen counting task old new = Gains (Finds seen counting task) old new
 
 -- the hits of a task among some rows, in their order
 abbrev pub found : Bool → Task → List Seen → List Hit
@@ -52,10 +56,8 @@ found counting task [] = []
 found counting task (s ∷ ss) = (if lets counting s && keeps task s then hit_in task.iter s ∷ [] else []) ++ found counting task ss
 
 -- the hits of these tasks come to those that there are
-pub record AddsAll (seen : List Seen) (counting : Bool) (tasks : List Task) (old new : List Hit) : Type 0 where
-  pub kept : (h : Hit) → In h old → In h new
-  pub sound : (h : Hit) → In h new → In h old ⊎ ((task : Task) × In task tasks × Finds seen counting task h)
-  pub complete : (task : Task) → In task tasks → (h : Hit) → Finds seen counting task h → In h new
+abbrev pub AddsAll : List Seen → Bool → List Task → List Hit → List Hit → Type 0
+AddsAll seen counting tasks old new = Gains (AnyOf (Finds seen counting) tasks) old new
 
 -- all that a task finds is there, where there is a task
 abbrev pub AllOf : List Seen → Bool → Option Task → List Hit → Type 0

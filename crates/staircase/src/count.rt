@@ -7,10 +7,10 @@ ghost use Rattle.doc_table.specs.Tree.{Tree};
 ghost use Rattle.staircase.specs.Joins.{IsCount, Ready, places, row_hit, tally_of};
 ghost use Rattle.staircase.specs.Parts.{AreRows};
 
+use crate::gather::gather;
 use crate::hits::{Hit, append_hits};
 use crate::kinds::{Ctx, Tally};
 use crate::seen::Seen;
-use crate::tasks::gather;
 use std::alloc::Global;
 use xq_base::{Axis, Want};
 

@@ -16,22 +16,21 @@ pub(crate) struct Frame {
 
 /// Frames, the innermost one first.
 #[derive(Drop)]
-pub(crate) struct Frames {
-    frames: Vec<Frame>,
+pub(crate) struct Frames<F: Copy> {
+    frames: Vec<F>,
 }
 
-impl Model for Frames {
+impl<F: Copy> Model for Frames<F> {
     ghost use Rattle.std.specs.Prelude.{List, reverse};
-    ghost use Rattle.staircase.specs.declared.frames.Frame.{Frame};
 
-    ghost Value = { List Frame };
+    ghost Value = { List F };
 
     ghost view = { λ o. reverse o.frames.items };
 }
 
-impl Frames {
+impl<F: Copy> Frames<F> {
     /// No frames.
-    pub fn new(alloc: Global) -> Frames
+    pub fn new(alloc: Global) -> Frames<F>
         ensures { result ≡ [] }
     {
         Frames {
@@ -40,7 +39,7 @@ impl Frames {
     }
 
     /// Adds an innermost frame.
-    pub fn push(&mut self, frame: Frame) -> Result<(), Want>
+    pub fn push(&mut self, frame: F) -> Result<(), Want>
         ensures { OnOk result (self.new ≡ frame ∷ self.old) }
     {
         if self.frames.push(frame).is_err() {
@@ -50,7 +49,7 @@ impl Frames {
     }
 
     /// The innermost frame.
-    pub fn top(&self) -> Option<Frame>
+    pub fn top(&self) -> Option<F>
         ensures { result ≡ first_frame self.now }
     {
         self.frames.last().copied()
@@ -65,7 +64,7 @@ impl Frames {
 }
 
 /// Removes the inner frames that have no child left.
-pub(crate) fn finish(frames: &mut Frames)
+pub(crate) fn finish(frames: &mut Frames<Frame>)
     ensures { frames.new ≡ unfinished frames.old }
 {
     loop {
@@ -84,7 +83,7 @@ pub(crate) fn finish(frames: &mut Frames)
 }
 
 /// Moves the innermost frame past row `at`, which ends at `last`, where it is the next child.
-pub(crate) fn advance(at: u32, last: u32, frames: &mut Frames) -> Result<(), Want>
+pub(crate) fn advance(at: u32, last: u32, frames: &mut Frames<Frame>) -> Result<(), Want>
     requires last { last < 2 ^ 32 - 1 }
     ensures { OnOk result (frames.new ≡ advanced at last frames.old) }
 {

@@ -15,11 +15,11 @@ use xq_base::Want;
 #[derive(Drop)]
 pub(crate) struct Kids<'a> {
     pub ahead: Ahead<'a>,
-    pub frames: Frames,
+    pub frames: Frames<Frame>,
 }
 
 /// The next row: a child, or a row of the context.
-fn next_kid(frames: &Frames, first: Option<u32>) -> Option<u32>
+fn next_kid(frames: &Frames<Frame>, first: Option<u32>) -> Option<u32>
     ensures { result ≡ next_of frames.now first }
 {
     match frames.top() {
@@ -32,7 +32,7 @@ fn next_kid(frames: &Frames, first: Option<u32>) -> Option<u32>
 }
 
 /// Adds a frame, where there is to be one.
-fn enter_frame(is_context: bool, frame: Frame, frames: &mut Frames) -> Result<(), Want>
+fn enter_frame(is_context: bool, frame: Frame, frames: &mut Frames<Frame>) -> Result<(), Want>
     ensures { OnOk result (frames.new ≡ with_frame is_context frame frames.old) }
 {
     if !is_context {

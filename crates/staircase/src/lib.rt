@@ -6,15 +6,25 @@ mod after;
 mod ahead;
 mod attributes;
 mod before;
+mod chain;
+mod chains;
 mod context;
 mod count;
 mod down;
 mod frames;
+mod gather;
 mod hits;
 mod kids;
 mod kinds;
+mod links;
+mod near;
+mod near_reads;
+#[cfg(test)]
+mod near_tests;
 mod own;
 mod part;
+#[cfg(test)]
+mod plain;
 mod read;
 mod reads;
 mod seen;
@@ -24,6 +34,8 @@ mod tasks;
 mod test;
 #[cfg(test)]
 mod tests;
+#[cfg(test)]
+mod worked;
 
 pub use kinds::{Ctx, Tally};
-pub use step::span_step;
+pub use step::join;

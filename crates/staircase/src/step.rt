@@ -7,18 +7,19 @@ ghost use Rattle.doc_table.specs.Sound.{is_sound};
 ghost use Rattle.doc_table.specs.Spine.{is_empty_id};
 ghost use Rattle.doc_table.specs.Touched.{counts, touched_rows};
 ghost use Rattle.staircase.specs.Hits.{Ascending, Extends};
-ghost use Rattle.staircase.specs.Joins.{is_span, own, places, tally_of, AreNodes, Joins, Ready};
+ghost use Rattle.staircase.specs.Joins.{own, places, tally_of, AreNodes, Joins, Ready};
 ghost use Rattle.staircase.specs.Parts.{AreRows};
 ghost use Rattle.staircase.specs.Seen.{seen_of, AllSeen};
 
 use crate::attributes::attribute_hits;
 use crate::context::{adds_owner, context_rows};
 use crate::count::tally;
+use crate::gather::gather;
 use crate::hits::append_hits;
 use crate::kinds::{Ctx, Tally};
+use crate::near_reads::read_near;
 use crate::reads::{read_after, read_before, read_down, read_kids, read_own};
 use crate::seen::Seen;
-use crate::tasks::gather;
 use doc_table::{Ledger, Reads, Rows};
 use std::alloc::Global;
 use xq_base::{Axis, FragKey, NodeTest, Want};
@@ -53,7 +54,13 @@ fn read_axis<R: Rows, L: Ledger>(
         Axis::Child => read_kids(alloc, rows, frag, site, axis, test, found, context, reads),
         Axis::Preceding => read_before(alloc, rows, frag, site, axis, test, found, context, reads),
         Axis::Following => read_after(alloc, rows, frag, site, axis, test, found, context, reads),
-        _ => Err(Want),
+        Axis::Parent
+        | Axis::Ancestor
+        | Axis::AncestorOrSelf
+        | Axis::PrecedingSibling
+        | Axis::FollowingSibling => read_near(
+            alloc, rows, frag, site, axis, test, found, context, reads,
+        ),
     }
 }
 
@@ -83,11 +90,11 @@ fn finish<R: Rows>(
     Ok(tally)
 }
 
-/// The step on an axis whose rows stand between two numbers: appends the nodes on the axis of a node of
-/// the context in each iteration that pass the test, ascending by row, attribute and iteration, each
-/// once, and counts. It reads exactly the rows that the step touches, ascending, each once. For want
-/// of memory the hits are as before and some first ones of these rows were read.
-pub fn span_step<R: Rows, L: Ledger>(
+/// The step on an axis: appends the nodes on the axis of a node of the context in each iteration that
+/// pass the test, ascending by row, attribute and iteration, each once, and counts. It reads exactly the
+/// rows that the step touches, ascending, each once. For want of memory the hits are as before and some
+/// first ones of these rows were read.
+pub fn join<R: Rows, L: Ledger>(
     alloc: Global,
     rows: &R,
     frag: FragKey,
@@ -98,7 +105,6 @@ pub fn span_step<R: Rows, L: Ledger>(
     out: &mut Vec<Ctx>,
     reads: &mut Reads<L>,
 ) -> Result<Tally, Want>
-    requires axis { is_span axis ≡ true }
     requires ascending { Ascending context.now }
     requires nodes { AreNodes (R.tree rows.now) context.now }
     ensures hits { OnOk result (Joins axis test (R.tree rows.now) context.now out.old.items out.new.items) }

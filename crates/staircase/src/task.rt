@@ -8,14 +8,13 @@ use crate::part::part;
 use crate::seen::Seen;
 use xq_base::Want;
 
-/// The rows from `first` on and before `end`, for one iteration: those at depth `level`, where it is
-/// given, whose subtree ends before `limit`, where it is given.
+/// The rows from `first` on and before `end`, for one iteration: those whose subtree ends before `limit`,
+/// where it is given.
 #[derive(Clone, Copy, Debug, PartialEq, Eq)]
 pub(crate) struct Task {
     pub iter: u64,
     pub first: u32,
     pub end: u32,
-    pub level: Option<u32>,
     pub limit: Option<u32>,
 }
 
@@ -23,15 +22,10 @@ pub(crate) struct Task {
 fn keeps(task: Task, seen: Seen) -> bool
     ensures { result ≡ keeps task seen }
 {
-    let level = match task.level {
-        None => true,
-        Some(level) => seen.level == level,
-    };
-    let limit = match task.limit {
+    match task.limit {
         None => true,
         Some(limit) => seen.last < limit,
-    };
-    level && limit
+    }
 }
 
 /// Whether the first task looks for all rows that the second one looks for, in the same iteration.
@@ -45,11 +39,7 @@ pub(crate) fn covers(task: Task, other: Task) -> bool
             Some(other) => other <= limit,
         },
     };
-    task.iter == other.iter
-        && task.first <= other.first
-        && other.end <= task.end
-        && task.level.is_none()
-        && limit
+    task.iter == other.iter && task.first <= other.first && other.end <= task.end && limit
 }
 
 /// Gathers a hit for a row, where a task looks for it.

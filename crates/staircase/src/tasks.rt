@@ -32,20 +32,18 @@ fn task_for(axis: Axis, iter: u64, attr: u32, own: Seen) -> Option<Task>
     ensures { result ≡ task_for axis iter attr own }
 {
     let since = if attr == 0 { own.last } else { own.pre };
-    let (first, end, level, limit) = match axis {
-        Axis::Following => (since + 1, u32::MAX, None, None),
-        Axis::Preceding => (0, own.pre, None, Some(own.pre)),
-        Axis::SelfNode if attr == 0 => (own.pre, own.pre + 1, None, None),
-        Axis::Child if attr == 0 => (own.pre + 1, own.last + 1, Some(own.level + 1), None),
-        Axis::Descendant if attr == 0 => (own.pre + 1, own.last + 1, None, None),
-        Axis::DescendantOrSelf if attr == 0 => (own.pre, own.last + 1, None, None),
+    let (first, end, limit) = match axis {
+        Axis::Following => (since + 1, u32::MAX, None),
+        Axis::Preceding => (0, own.pre, Some(own.pre)),
+        Axis::SelfNode if attr == 0 => (own.pre, own.pre + 1, None),
+        Axis::Descendant if attr == 0 => (own.pre + 1, own.last + 1, None),
+        Axis::DescendantOrSelf if attr == 0 => (own.pre, own.last + 1, None),
         _ => return None,
     };
     Some(Task {
         iter,
         first,
         end,
-        level,
         limit,
     })
 }
@@ -137,7 +135,7 @@ fn do_tasks(
 }
 
 /// Gathers the hits of a context on the axes whose rows stand between two numbers.
-pub(crate) fn gather(
+pub(crate) fn gather_spans(
     alloc: Global,
     axis: Axis,
     counting: bool,

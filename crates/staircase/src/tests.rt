@@ -1,7 +1,7 @@
 //! Steps over two small documents, with what they append, read and count.
-ghost use Rattle.std.specs.Prelude.{◌≡◌, true, IfOk};
+ghost use Rattle.std.specs.Prelude.{◌≡◌, IfOk};
 ghost use Rattle.staircase.specs.Hits.{Ascending};
-ghost use Rattle.staircase.specs.Joins.{is_span, AreNodes};
+ghost use Rattle.staircase.specs.Joins.{AreNodes};
 ghost use Rattle.staircase.specs.Samples.{mixed, nested};
 
 use super::*;
@@ -10,7 +10,7 @@ use std::alloc::Global;
 use std::process::Abort;
 use xq_base::{Axis, FragKey, NodeTest, TextId, Want};
 
-fn nested(alloc: Global) -> Result<Fragment, Want>
+pub(crate) fn nested(alloc: Global) -> Result<Fragment, Want>
     ensures { IfOk result (λ tree. tree ≡ nested) }
 {
     let mut tree = FragmentBuilder::new(alloc);
@@ -27,7 +27,7 @@ fn nested(alloc: Global) -> Result<Fragment, Want>
     Ok(tree.finish())
 }
 
-fn mixed(alloc: Global) -> Result<Fragment, Want>
+pub(crate) fn mixed(alloc: Global) -> Result<Fragment, Want>
     ensures { IfOk result (λ tree. tree ≡ mixed) }
 {
     let mut tree = FragmentBuilder::new(alloc);
@@ -48,7 +48,7 @@ fn mixed(alloc: Global) -> Result<Fragment, Want>
     Ok(tree.finish())
 }
 
-fn ctx(iter: u64, pre: u32, attr: u32) -> Ctx
+pub(crate) fn ctx(iter: u64, pre: u32, attr: u32) -> Ctx
     ensures { result ≡ record { iter = iter; pre = pre; attr = attr } }
 {
     Ctx { iter, pre, attr }
@@ -66,13 +66,12 @@ fn compare(
     rows: &[u32],
     tally: Tally,
 )
-    requires axis { is_span axis ≡ true }
     requires ascending { Ascending context.now }
     requires nodes { AreNodes tree.now context.now }
 {
     let mut reads = Reads::new(NoteList::new(alloc));
     let mut out = Vec::new(alloc);
-    let joined = span_step(
+    let joined = join(
         alloc,
         tree,
         FragKey::Doc(0),
@@ -258,5 +257,126 @@ fn steps_go_over_attributes_and_texts(rt: HostRuntime) {
         &named,
         &[1, 2, 3, 4, 5, 6, 7],
         tally(2, 7, 0, 7),
+    );
+}
+
+#[test]
+fn steps_go_to_parents_and_ancestors(rt: HostRuntime) {
+    let alloc = rt.alloc();
+    let made = mixed(alloc);
+    assert!(rt; made.is_ok());
+    let Ok(tree) = made else { return };
+    let texts = [ctx(1, 3, 0), ctx(2, 5, 0), ctx(1, 7, 0)];
+    let attribute = [ctx(1, 1, 1)];
+    compare(
+        &rt,
+        alloc,
+        &tree,
+        Axis::Parent,
+        NodeTest::Any,
+        &texts,
+        &[ctx(2, 1, 0), ctx(1, 2, 0), ctx(1, 6, 0)],
+        &[0, 1, 2, 3, 4, 5, 6, 7],
+        tally(3, 3, 2, 8),
+    );
+    compare(
+        &rt,
+        alloc,
+        &tree,
+        Axis::Ancestor,
+        NodeTest::Any,
+        &texts,
+        &[
+            ctx(1, 0, 0),
+            ctx(2, 0, 0),
+            ctx(1, 1, 0),
+            ctx(2, 1, 0),
+            ctx(1, 2, 0),
+            ctx(1, 6, 0),
+        ],
+        &[0, 1, 2, 3, 4, 5, 6, 7],
+        tally(3, 4, 1, 8),
+    );
+    compare(
+        &rt,
+        alloc,
+        &tree,
+        Axis::AncestorOrSelf,
+        NodeTest::Text,
+        &texts,
+        &texts,
+        &[0, 1, 2, 3, 4, 5, 6, 7],
+        tally(3, 7, 1, 8),
+    );
+    compare(
+        &rt,
+        alloc,
+        &tree,
+        Axis::Parent,
+        NodeTest::Any,
+        &attribute,
+        &[ctx(1, 1, 0)],
+        &[0, 1],
+        tally(1, 1, 1, 2),
+    );
+    compare(
+        &rt,
+        alloc,
+        &tree,
+        Axis::AncestorOrSelf,
+        NodeTest::Any,
+        &attribute,
+        &[ctx(1, 0, 0), ctx(1, 1, 0), ctx(1, 1, 1)],
+        &[0, 1],
+        tally(1, 2, 0, 2),
+    );
+}
+
+#[test]
+fn steps_go_to_siblings(rt: HostRuntime) {
+    let alloc = rt.alloc();
+    let made = mixed(alloc);
+    assert!(rt; made.is_ok());
+    let Ok(tree) = made else { return };
+    let children = [ctx(1, 4, 0), ctx(2, 5, 0), ctx(1, 6, 0)];
+    compare(
+        &rt,
+        alloc,
+        &tree,
+        Axis::PrecedingSibling,
+        NodeTest::Any,
+        &children,
+        &[
+            ctx(1, 2, 0),
+            ctx(2, 2, 0),
+            ctx(1, 4, 0),
+            ctx(2, 4, 0),
+            ctx(1, 5, 0),
+        ],
+        &[0, 1, 2, 4, 5, 6],
+        tally(3, 3, 2, 6),
+    );
+    compare(
+        &rt,
+        alloc,
+        &tree,
+        Axis::FollowingSibling,
+        NodeTest::Any,
+        &children,
+        &[ctx(1, 5, 0), ctx(1, 6, 0), ctx(2, 6, 0)],
+        &[0, 1, 2, 4, 5, 6],
+        tally(3, 2, 3, 6),
+    );
+    let nested = [ctx(1, 2, 0), ctx(1, 3, 0)];
+    compare(
+        &rt,
+        alloc,
+        &tree,
+        Axis::FollowingSibling,
+        NodeTest::Star,
+        &nested,
+        &[ctx(1, 4, 0), ctx(1, 6, 0)],
+        &[0, 1, 2, 3, 4, 5, 6],
+        tally(2, 3, 2, 7),
     );
 }

@@ -6,8 +6,8 @@ use Rattle.doc_table.specs.Enc.{enc}
 use Rattle.doc_table.specs.Notes.{AppendsAll, notes_of}
 use Rattle.doc_table.specs.Touched.{touched_rows}
 use Rattle.staircase.specs.Joins.{places}
-use Rattle.staircase.proofs.Joining.{ready-rows, ready-seen}
-use Rattle.staircase.proofs.step.span_step.Goals as goal
+use Rattle.staircase.proofs.Gathering.{ready-rows, ready-seen}
+use Rattle.staircase.proofs.step.join.Goals as goal
 
 pub finish-requires-clause-rows : goal.finish-requires-clause-rows
 finish-requires-clause-rows g c =

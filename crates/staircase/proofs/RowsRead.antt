@@ -7,7 +7,7 @@ use Rattle.xq_base.specs.declared.item.TextId.{TextId}
 use Rattle.xq_base.specs.declared.axis.Axis.{Axis}
 use Rattle.xq_base.specs.declared.axis.NodeTest.{NodeTest}
 use Rattle.doc_table.specs.Tree.{Tree, Forest, Branch, no_more, one_more}
-use Rattle.doc_table.specs.Enc.{enc, enc_at, encs_at, no_line}
+use Rattle.doc_table.specs.Enc.{enc, enc_at, encs_at, line_in, no_line}
 use Rattle.doc_table.specs.Places.{RowsTell}
 use Rattle.doc_table.specs.Touched.{picked}
 use Rattle.staircase.specs.declared.seen.Seen.{Seen}
@@ -50,25 +50,25 @@ lined-in axis tested t s [] h = absurd h
 lined-in axis tested t s (x ∷ rows) h = elim h [ inl e ↦ (x, inl refl, e) | inr r ↦ (let k = lined-in axis tested t s rows r in (k.0, inr k.1, k.2)) ]
 
 -- the rows below n that pass
-abbrev pub board : Axis → NodeTest → Tree TextId → (ℕ → Bool) → ℕ → List Seen
-board axis tested t wants n = map (seen_of axis tested t) (picked wants n)
+abbrev pub rows_read : Axis → NodeTest → Tree TextId → (ℕ → Bool) → ℕ → List Seen
+rows_read axis tested t wants n = map (seen_of axis tested t) (picked wants n)
 
-pub board-in : (axis : Axis) (tested : NodeTest) (t : Tree TextId) (wants : ℕ → Bool) (n v : ℕ) → v < n → wants v ≡ true → In (seen_of axis tested t v) (board axis tested t wants n)
-board-in axis tested t wants n v l e = in-lined axis tested t v (picked wants n) (in-picked wants n v l e)
+pub read-in : (axis : Axis) (tested : NodeTest) (t : Tree TextId) (wants : ℕ → Bool) (n v : ℕ) → v < n → wants v ≡ true → In (seen_of axis tested t v) (rows_read axis tested t wants n)
+read-in axis tested t wants n v l e = in-lined axis tested t v (picked wants n) (in-picked wants n v l e)
 
-pub in-board : (axis : Axis) (tested : NodeTest) (t : Tree TextId) (wants : ℕ → Bool) (n : ℕ) (s : Seen) → In s (board axis tested t wants n) → (v : ℕ) × (v < n) × (wants v ≡ true) × (s ≡ seen_of axis tested t v)
-in-board axis tested t wants n s h =
+pub in-read : (axis : Axis) (tested : NodeTest) (t : Tree TextId) (wants : ℕ → Bool) (n : ℕ) (s : Seen) → In s (rows_read axis tested t wants n) → (v : ℕ) × (v < n) × (wants v ≡ true) × (s ≡ seen_of axis tested t v)
+in-read axis tested t wants n s h =
     let r = lined-in axis tested t s (picked wants n) h in
     let p = picked-in wants n r.0 r.1 in
     (r.0, p.0, p.1, r.2)
 
-board-more : (axis : Axis) (tested : NodeTest) (t : Tree TextId) (wants : ℕ → Bool) (n : ℕ) → board axis tested t wants (suc n) ≡ board axis tested t wants n ++ map (seen_of axis tested t) (cond (wants n) (n ∷ []) [])
-board-more axis tested t wants n = map-append (seen_of axis tested t) (picked wants n) (cond (wants n) (n ∷ []) [])
+read-more : (axis : Axis) (tested : NodeTest) (t : Tree TextId) (wants : ℕ → Bool) (n : ℕ) → rows_read axis tested t wants (suc n) ≡ rows_read axis tested t wants n ++ map (seen_of axis tested t) (cond (wants n) (n ∷ []) [])
+read-more axis tested t wants n = map-append (seen_of axis tested t) (picked wants n) (cond (wants n) (n ∷ []) [])
 
-pre-below : (axis : Axis) (tested : NodeTest) (t : Tree TextId) (wants : ℕ → Bool) (n k : ℕ) (d : Seen) → k < length (board axis tested t wants n) → (slice_index_or (board axis tested t wants n) k d).pre < n
+pre-below : (axis : Axis) (tested : NodeTest) (t : Tree TextId) (wants : ℕ → Bool) (n k : ℕ) (d : Seen) → k < length (rows_read axis tested t wants n) → (slice_index_or (rows_read axis tested t wants n) k d).pre < n
 pre-below axis tested t wants n k d l =
-    let r = in-board axis tested t wants n (slice_index_or (board axis tested t wants n) k d) (in-at (board axis tested t wants n) k d l) in
-    let e : (slice_index_or (board axis tested t wants n) k d).pre ≡ r.0 = ap (λ (z : Seen). z.pre) r.3 in
+    let r = in-read axis tested t wants n (slice_index_or (rows_read axis tested t wants n) k d) (in-at (rows_read axis tested t wants n) k d l) in
+    let e : (slice_index_or (rows_read axis tested t wants n) k d).pre ≡ r.0 = ap (λ (z : Seen). z.pre) r.3 in
     omega (arith, r.1)
 
 rising-more : (xs : List Seen) (s : Seen) → IsRising xs → ((k : ℕ) (d : Seen) → k < length xs → (slice_index_or xs k d).pre < s.pre) → IsRising (xs ++ s ∷ [])
@@ -88,36 +88,38 @@ rising-more xs s r f = λ i j d h l. here i j d h l (cases_lt j (length xs))
         let ej : (slice_index_or (xs ++ s ∷ []) j d).pre ≡ s.pre = ap (λ z. (slice_index_or (xs ++ s ∷ []) z d).pre) last ∙ ap (λ (z : Seen). z.pre) (at-right xs (s ∷ []) 0 d) in
         let less = f i d (omega (arith, long)) in omega arith
 
-board-rises : (axis : Axis) (tested : NodeTest) (t : Tree TextId) (wants : ℕ → Bool) (n : ℕ) → IsRising (board axis tested t wants n)
-board-rises axis tested t wants zero = λ i j d h l. absurd (omega arith)
-board-rises axis tested t wants (suc n) = subst IsRising (sym (board-more axis tested t wants n)) (here (wants n) (board-rises axis tested t wants n))
+read-rises : (axis : Axis) (tested : NodeTest) (t : Tree TextId) (wants : ℕ → Bool) (n : ℕ) → IsRising (rows_read axis tested t wants n)
+read-rises axis tested t wants zero = λ i j d h l. absurd (omega arith)
+read-rises axis tested t wants (suc n) = subst IsRising (sym (read-more axis tested t wants n)) (here (wants n) (read-rises axis tested t wants n))
   where
-    here : (b : Bool) → IsRising (board axis tested t wants n) → IsRising (board axis tested t wants n ++ map (seen_of axis tested t) (cond b (n ∷ []) []))
-    here true r = rising-more (board axis tested t wants n) (seen_of axis tested t n) r (λ k d l. pre-below axis tested t wants n k d l)
-    here false r = subst IsRising (sym (append-nil (board axis tested t wants n))) r
+    here : (b : Bool) → IsRising (rows_read axis tested t wants n) → IsRising (rows_read axis tested t wants n ++ map (seen_of axis tested t) (cond b (n ∷ []) []))
+    here true r = rising-more (rows_read axis tested t wants n) (seen_of axis tested t n) r (λ k d l. pre-below axis tested t wants n k d l)
+    here false r = subst IsRising (sym (append-nil (rows_read axis tested t wants n))) r
 
-pub board-rows : (axis : Axis) (tested : NodeTest) (t : Tree TextId) (wants : ℕ → Bool) → RowsTell t → length (enc t) < 4294967296 → AreRows (board axis tested t wants (length (enc t)))
-board-rows axis tested t wants b n = record {
-  rising = board-rises axis tested t wants (length (enc t));
+pub read-ordered : (axis : Axis) (tested : NodeTest) (t : Tree TextId) (wants : ℕ → Bool) → RowsTell t → length (enc t) < 4294967296 → AreRows (rows_read axis tested t wants (length (enc t)))
+read-ordered axis tested t wants b n = record {
+  rising = read-rises axis tested t wants (length (enc t));
   small = λ s h.
-      let r = in-board axis tested t wants (length (enc t)) s h in
+      let r = in-read axis tested t wants (length (enc t)) s h in
       let v : ℕ = r.0 in
       let ends = b.ends v r.1 in
       let deep = level-tree 0 t v r.1 in
       let small : IsSmall (seen_of axis tested t v) = record { pre = omega (arith, r.1); last = omega arith; level = omega (arith, r.1) } in
       subst IsSmall (sym r.3) small;
+  order = λ s h. (let r = in-read axis tested t wants (length (enc t)) s h in
+      subst (λ (z : Seen). z.pre ≤ z.last) (sym r.3) (let o : r.0 ≤ r.0 + (line_in (enc t) r.0).size = omega arith in o));
 }
 
 -- the row of a node that was read
-pub board-found : (axis : Axis) (tested : NodeTest) (t : Tree TextId) (wants : ℕ → Bool) (n v : ℕ) → v < n → wants v ≡ true → row_found (board axis tested t wants n) v ≡ Some (seen_of axis tested t v)
-board-found axis tested t wants n v l e =
-    let xs : List Seen = board axis tested t wants n in
-    let p = place-in (seen_of axis tested t v) xs (board-in axis tested t wants n v l e) in
-    row-found_at xs p.0 v (seen_of axis tested t v) (board-rises axis tested t wants n) p.1 (ap (λ (z : Seen). z.pre) p.2) ∙ ap (λ z. Some z) p.2
+pub read-found : (axis : Axis) (tested : NodeTest) (t : Tree TextId) (wants : ℕ → Bool) (n v : ℕ) → v < n → wants v ≡ true → row_found (rows_read axis tested t wants n) v ≡ Some (seen_of axis tested t v)
+read-found axis tested t wants n v l e =
+    let xs : List Seen = rows_read axis tested t wants n in
+    let p = place-in (seen_of axis tested t v) xs (read-in axis tested t wants n v l e) in
+    row-found_at xs p.0 v (seen_of axis tested t v) (read-rises axis tested t wants n) p.1 (ap (λ (z : Seen). z.pre) p.2) ∙ ap (λ z. Some z) p.2
 
 -- a row that is found is the row with this number
-pub found-board : (axis : Axis) (tested : NodeTest) (t : Tree TextId) (wants : ℕ → Bool) (n v : ℕ) (s : Seen) → row_found (board axis tested t wants n) v ≡ Some s → s ≡ seen_of axis tested t v
-found-board axis tested t wants n v s e = go (board axis tested t wants n) e (λ r i. in-board axis tested t wants n r i)
+pub found-read : (axis : Axis) (tested : NodeTest) (t : Tree TextId) (wants : ℕ → Bool) (n v : ℕ) (s : Seen) → row_found (rows_read axis tested t wants n) v ≡ Some s → s ≡ seen_of axis tested t v
+found-read axis tested t wants n v s e = go (rows_read axis tested t wants n) e (λ r i. in-read axis tested t wants n r i)
   where
     go : (xs : List Seen) → row_found xs v ≡ Some s → ((r : Seen) → In r xs → (w : ℕ) × (w < n) × (wants w ≡ true) × (r ≡ seen_of axis tested t w)) → s ≡ seen_of axis tested t v
     go [] e f = cc
