@@ -12,6 +12,7 @@ use Rattle.query_engine.specs.declared.fault.ParseFault.TheVariants.{Syntax, Too
 use Rattle.query_engine.specs.declared.evaluate.Failed.{Failed}
 use Rattle.query_engine.specs.Evaluating.{failing}
 use Rattle.query_engine.specs.Query.{IsQuery, Faults}
+use Rattle.query_engine.specs.Calls.{IsCall}
 use Rattle.query_engine.specs.Scope.{unbound, least_place}
 use Rattle.query_engine.specs.Normal.{norm}
 use Rattle.query_engine.specs.Serial.{serial}
@@ -30,11 +31,11 @@ answered e v bytes p q = record { items = v; value = (value_is e v p).0; calm = 
 pub unanswered : (e : Expr) (f : Failed) → outcome e no_variables ≡ Err (failing f) → IsFirst e f.code (Some f.offset)
 unanswered e f p = record { failing = moved 0 (failing f); first = (first_is e (failing f) p).1; code_is = refl; place_is = refl }
 
-pub unread_syntax : (text : List ℕ) → Faults text Syntax → IsRefused text c.XPST0003 None
-unread_syntax text f = no_query f.0
+pub unread_syntax : (text : List ℕ) → ((place : ℕ) (name : List ℕ) → IsCall text place name → ⊥) → Faults text Syntax → IsRefused text c.XPST0003 None
+unread_syntax text n f = no_query f.0 n
 
-pub unread_deep : (text : List ℕ) (place : ℕ) → Faults text (TooDeep place) → IsRefused text c.XPST0003 None
-unread_deep text place f = no_query f.1
+pub unread_deep : (text : List ℕ) (place : ℕ) → ((place : ℕ) (name : List ℕ) → IsCall text place name → ⊥) → Faults text (TooDeep place) → IsRefused text c.XPST0003 None
+unread_deep text place n f = no_query f.1 n
 
 pub refused_scope : (text : List ℕ) (tree : List Single) (place : ℕ) → IsQuery text tree → Some place ≡ least_place (unbound tree) → IsRefused text c.XPST0008 (Some place)
 refused_scope text tree place q p = no_binding tree place q (sym p)

@@ -1,6 +1,8 @@
 pub mod Answers
 pub mod Bools
+pub mod Calls
 pub mod Chains
+pub mod Documents
 pub mod Drops
 pub mod Exact
 pub mod Follow

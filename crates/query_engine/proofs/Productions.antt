@@ -18,13 +18,13 @@ Any _ = Unit {0}
 
 module _ (text : List ℕ) where
   -- terminals
-  sign_exact : {Stop : ℕ → Type 0} (kind : Kind) → (0 == code kind) ≡ false → Exact (g.sign text kind) (λ at. is_kind text kind at ≡ true) Stop (r.sign text kind)
+  pub sign_exact : {Stop : ℕ → Type 0} (kind : Kind) → (0 == code kind) ≡ false → Exact (g.sign text kind) (λ at. is_kind text kind at ≡ true) Stop (r.sign text kind)
   sign_exact kind z = take_exact (λ at e. let s = (sign_past text kind at z e).some in omega (arith, s))
 
   sign_strict : (kind : Kind) → (0 == code kind) ≡ false → Strict (g.sign text kind)
   sign_strict kind z = take_strict (is_kind text kind) (λ _. tt) _ (λ at e. (sign_past text kind at z e).some)
 
-  word_exact : {Stop : ℕ → Type 0} (w : List ℕ) → Exact (g.word text w) (λ at. is_word text w at ≡ true) Stop (r.word text w)
+  pub word_exact : {Stop : ℕ → Type 0} (w : List ℕ) → Exact (g.word text w) (λ at. is_word text w at ≡ true) Stop (r.word text w)
   word_exact w = take_exact (λ at e. let s = (sign_past text k.Name at refl (word_is_name text w at e)).some in omega (arith, s))
 
   name_exact : {Stop : ℕ → Type 0} → Exact (g.name text) (λ at. is_kind text k.Name at ≡ true) Stop (r.name text)

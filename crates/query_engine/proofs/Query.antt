@@ -10,7 +10,7 @@ use Rattle.query_engine.specs.Outcomes.{Fails}
 use Rattle.query_engine.specs.Query.{IsQuery, IsCut, Faults, ReadsAs}
 use Rattle.query_engine.proofs.Productions.{query_exact}
 
-is_read : (text : List ℕ) (as_ : List Single) → IsQuery text as_ → (to : ℕ) × (r.query_from text 0 ≡ Ok (as_, to))
+pub is_read : (text : List ℕ) (as_ : List Single) → IsQuery text as_ → (to : ℕ) × (r.query_from text 0 ≡ Ok (as_, to))
 is_read text as_ q = (q.0, (query_exact text).complete 0 q.0 as_ q.1 tt)
 
 is_cut : (text : List ℕ) (why : Why) (place : ℕ) → IsCut text why place → r.query_from text 0 ≡ Err (cut why place)

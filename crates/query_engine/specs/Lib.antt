@@ -1,5 +1,7 @@
 pub mod Answering
 pub mod Bytes
+pub mod Calls
+pub mod Documents
 pub mod Evaluating
 pub mod Grammar
 pub mod Look

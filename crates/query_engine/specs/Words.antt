@@ -9,3 +9,6 @@ word_in = 105 ∷ 110 ∷ []
 
 abbrev pub word_return : List ℕ
 word_return = 114 ∷ 101 ∷ 116 ∷ 117 ∷ 114 ∷ 110 ∷ []
+
+abbrev pub word_doc : List ℕ
+word_doc = 100 ∷ 111 ∷ 99 ∷ []

@@ -320,7 +320,8 @@ fn single(
     .level(at)
 }
 
-fn at_end(text: &[u8], at: usize) -> bool
+/// Whether nothing more but white space stands here.
+pub fn at_end(text: &[u8], at: usize) -> bool
     ensures { result ≡ spec.at_end text.now at }
 {
     place(text, at) == text.len()

@@ -4,6 +4,7 @@
 #![tactic(auto)]
 
 mod bytes;
+mod call;
 mod engine;
 mod evaluate;
 mod fault;
@@ -17,4 +18,4 @@ mod serial;
 mod token;
 mod tree;
 
-pub use engine::{AnswerFault, CompileFault, answer, compile, one_meaning};
+pub use engine::{AnswerFault, CompileFault, Compiled, answer, compile, one_meaning};

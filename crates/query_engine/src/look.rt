@@ -49,7 +49,7 @@ pub fn is_kind(text: &[u8], at: usize, kind: Kind) -> bool
 
 /// The bytes between two places of a text.
 #[tactic(auto, using(crate::proofs::Past::nothing_between))]
-fn between(text: &[u8], from: usize, to: usize) -> &[u8]
+pub fn between(text: &[u8], from: usize, to: usize) -> &[u8]
     requires { to ≤ length text.now }
     ensures { result.now ≡ slice_range text.now from to }
 {

@@ -8,6 +8,13 @@ pub struct Name {
     pub text: Items<u8>,
 }
 
+/// A call of `doc`: the place of its first byte, and the name that it gives.
+#[derive(Drop)]
+pub struct Call {
+    pub offset: u64,
+    pub name: Items<u8>,
+}
+
 #[cycle(tree)]
 #[derive(Drop)]
 pub enum Single {
