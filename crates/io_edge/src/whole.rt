@@ -83,6 +83,7 @@ pub fn read_whole<F: Shelf>(
     ensures later { F.faults shelf.old ≤ F.faults shelf.new }
     ensures cause { result ≡ Err ReadErr.ReadFault → Rose (F.faults shelf.old) (F.faults shelf.new) }
     ensures files { F.files shelf.new ≡ F.files shelf.old }
+    ensures within { IfOk result (λ bytes. length bytes.items ≤ limit) }
     ensures whole { ReadsWhole (F.files shelf.old) name.now limit result }
     ensures asked { AsksWhole (F.asked shelf.old) (F.asked shelf.new) name.now result }
 {

@@ -1,4 +1,9 @@
 pub mod Forms
-pub mod InWords
+pub mod Loading
+pub mod OneStatus
 pub mod Pieces
+pub mod Repeats
+pub mod Replying
+pub mod Texts
+pub mod Values
 pub mod Worked

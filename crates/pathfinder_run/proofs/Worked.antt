@@ -1,9 +1,9 @@
 -- Worked examples: trees, scope, Core, answers.
-use Rattle.std.proofs.Common.{◌≡◌, ℕ, ℤ, pos, negsuc, List, [], ◌∷◌, ◌++◌, decimal, codes, rules, Option, Some, None, Result, Ok, Err, refl}
+use Rattle.std.proofs.Common.{◌≡◌, ℕ, pos, negsuc, List, [], ◌∷◌, ◌++◌, decimal, codes, Some, Ok, Err, refl}
 use Rattle.query_engine.specs.declared.tree.Single.{Single}
 use Rattle.query_engine.specs.declared.tree.Single.TheVariants as single_
-use Rattle.query_engine.specs.declared.tree.Sum.{Sum, roll-Sum}
-use Rattle.query_engine.specs.declared.tree.Bind.{Bind, roll-Bind}
+use Rattle.query_engine.specs.declared.tree.Sum.{roll-Sum}
+use Rattle.query_engine.specs.declared.tree.Bind.{roll-Bind}
 use Rattle.query_engine.specs.declared.tree.Primary.{Primary}
 use Rattle.query_engine.specs.declared.tree.Primary.TheVariants as prim_
 use Rattle.core_meaning.specs.Items.{Int}
@@ -11,7 +11,7 @@ use Rattle.query_engine.specs.Bytes.{ends}
 use Rattle.query_engine.specs.Tokens.{token}
 use Rattle.query_engine.specs.Look.{number_from}
 use Rattle.query_engine.specs.Rules.{deep}
-use Rattle.query_engine.specs.Parsers.{Fault, syntax_fault, cut, many_from}
+use Rattle.query_engine.specs.Parsers.{syntax_fault, cut, many_from}
 use Rattle.query_engine.specs.Reading as r
 use Rattle.query_engine.specs.declared.tree.Name.{Name}
 use Rattle.query_engine.specs.Scope.{unbound, least_place}

@@ -1,4 +1,5 @@
 pub mod Statuses
 pub mod Words
 pub mod Lines
+pub mod Inputs
 pub mod Top

@@ -7,6 +7,7 @@ abbrev pub code_of : Status → ℕ
 code_of s.Done = 0
 code_of (s.Static code place) = 1
 code_of (s.Dynamic code place) = 2
+code_of (s.DocRefused word kind) = 3
 code_of (s.ReadFault word) = 4
 code_of s.WriteFault = 5
 code_of s.Usage = 6

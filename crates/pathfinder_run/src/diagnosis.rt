@@ -3,10 +3,10 @@ ghost use Rattle.std.specs.Prelude.{◌≡◌, ◌≤◌, OnOk, map, string_byte
 ghost use Rattle.std.specs.List.{concat};
 ghost use Rattle.io_edge.specs.Causes.{HasCause};
 ghost use Rattle.io_edge.specs.Sinks.{TakesOf, TakesPrefix};
-ghost use Rattle.pathfinder_run.specs.Lines.{Said, line, coded, named, too_large};
+ghost use Rattle.pathfinder_run.specs.Lines.{Said, line, coded, named, too_large, about, refused};
 ghost use Rattle.pathfinder_run.specs.Words.{word_at as words_at};
 
-use crate::status::Status;
+use crate::status::{DocFault, Status};
 use io_edge::{Failed, Sink, write_whole};
 use itoa::Buffer;
 use xq_base::Code;
@@ -80,6 +80,25 @@ fn say_too_large<S: Sink>(sink: &mut S, words: &[String], word: Option<usize>)
     }
 }
 
+fn say_about<S: Sink>(sink: &mut S, words: &[String], place: usize, text: &[u8])
+    ensures { Said (S.faults sink.old) (S.faults sink.new) (S.taken sink.old) (S.taken sink.new) (about (words_at (map string_bytes words.now) place) text.now) }
+{
+    said(
+        sink,
+        &[b"document ", word_at(words, place).as_bytes(), text],
+    );
+}
+
+fn say_refused<S: Sink>(sink: &mut S, words: &[String], place: usize, kind: DocFault)
+    ensures { Said (S.faults sink.old) (S.faults sink.new) (S.taken sink.old) (S.taken sink.new) (refused (words_at (map string_bytes words.now) place) kind) }
+{
+    match kind {
+        DocFault::NotWellFormed => say_about(sink, words, place, b" is not well-formed\n"),
+        DocFault::Unsupported => say_about(sink, words, place, b" is unsupported\n"),
+        DocFault::TooDeep => say_about(sink, words, place, b" is too deep\n"),
+    }
+}
+
 /// Writes the line for a status. Where the sink counts a fault it may take a prefix alone.
 pub fn say<S: Sink>(sink: &mut S, words: &[String], status: Status)
     ensures { Said (S.faults sink.old) (S.faults sink.new) (S.taken sink.old) (S.taken sink.new) (line (map string_bytes words.now) status) }
@@ -88,6 +107,7 @@ pub fn say<S: Sink>(sink: &mut S, words: &[String], status: Status)
         Status::Done => said(sink, &[]),
         Status::Static { code, offset } => say_code(sink, code, offset),
         Status::Dynamic { code, offset } => say_code(sink, code, offset),
+        Status::DocRefused { word, kind } => say_refused(sink, words, word, kind),
         Status::ReadFault { word } => say_named(sink, b"read fault: ", words, word),
         Status::WriteFault => said(sink, &[b"write fault\n"]),
         Status::Usage => said(sink, &[USAGE]),

@@ -4,6 +4,9 @@
 
 mod diagnosis;
 #[cfg(test)]
+mod doc_rows;
+mod inputs;
+#[cfg(test)]
 mod rows;
 mod status;
 mod top;

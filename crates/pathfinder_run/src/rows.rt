@@ -272,7 +272,7 @@ fn one_file(alloc: Global, text: &[u8]) -> Result<Vec<(String, Vec<u8>)>, AllocE
     Ok(files)
 }
 
-fn words_of(alloc: Global, all: &[&str]) -> Result<Vec<String>, AllocError> {
+pub fn words_of(alloc: Global, all: &[&str]) -> Result<Vec<String>, AllocError> {
     let mut words = Vec::new(alloc);
     for word in all {
         words.push(String::from_str(alloc, word)?)?;
@@ -281,7 +281,7 @@ fn words_of(alloc: Global, all: &[&str]) -> Result<Vec<String>, AllocError> {
 }
 
 /// Whether a line of the diagnosis has this text.
-fn is_line(taken: &[u8], text: &[u8]) -> bool {
+pub fn is_line(taken: &[u8], text: &[u8]) -> bool {
     if text.is_empty() {
         return taken.is_empty();
     }
@@ -316,7 +316,7 @@ fn queries_are_answered(rt: HostRuntime) -> Result<(), Fail> {
 }
 
 /// Some bytes, so many times, one after the other.
-fn repeated(alloc: Global, bytes: &[u8], count: usize) -> Result<Vec<u8>, AllocError> {
+pub fn repeated(alloc: Global, bytes: &[u8], count: usize) -> Result<Vec<u8>, AllocError> {
     let mut all = Vec::new(alloc);
     for _ in 0..count {
         all.extend_from_slice(bytes)?;
@@ -464,7 +464,7 @@ const OUTSIDE: [Outside; 10] = [
         code: 6,
     },
     Outside {
-        words: &["run", "q.xq", "a.xml"],
+        words: &["run", "q.xq", "a.xml", "b.xml", "a.xml"],
         shelf_fails: 0,
         out_fails: 0,
         out: b"",
@@ -474,7 +474,7 @@ const OUTSIDE: [Outside; 10] = [
 ];
 
 /// A list with one number, or none for 0.
-fn only(alloc: Global, number: u64) -> Result<Vec<u64>, AllocError> {
+pub fn only(alloc: Global, number: u64) -> Result<Vec<u64>, AllocError> {
     let mut all = Vec::new(alloc);
     if number > 0 {
         all.push(number)?;

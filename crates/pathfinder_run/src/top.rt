@@ -1,17 +1,25 @@
 //! The call that the program makes.
-ghost use Rattle.std.specs.Prelude.{ℕ, ◌≡◌, ◌≤◌, List, map, string_bytes};
-ghost use Rattle.pathfinder_run.specs.Words.{IsQueryWord};
+ghost use Rattle.std.specs.Prelude.{ℕ, ◌≡◌, ◌≤◌, ◌∷◌, List, length, map, true, string_bytes};
+ghost use Rattle.xq_base.specs.Pool.{AreDifferent};
+ghost use Rattle.doc_table.specs.Given.{trees_given};
+ghost use Rattle.doc_table.specs.Stores.{AreGiven};
+ghost use Rattle.query_engine.specs.Documents.{HaveRoots, documents_in};
+ghost use Rattle.query_engine.specs.Answering.{IsCompiled};
+ghost use Rattle.pathfinder_run.specs.Words.{AreWords, most_documents};
 ghost use Rattle.pathfinder_run.specs.declared.status.Status.TheVariants.{Usage};
 ghost use Rattle.pathfinder_run.specs.Lines.{Said, line};
-ghost use Rattle.io_edge.specs.Shelves.{MayAppendName};
-ghost use Rattle.pathfinder_run.specs.Top.{TextAnswered, QueryRead, AnsweredOver, Quiet, HasReason, UsageExactly, AsksAtMost};
+ghost use Rattle.pathfinder_run.specs.Inputs.{RisesWith};
+ghost use Rattle.pathfinder_run.specs.Top.{TextCompiled, ValueGiven, Replies, Answered, Exactly, Quiet, HasReason, UsageExactly, CountExactly, AsksFirst, AsksAtMost};
 
 use crate::diagnosis::say;
+use crate::inputs::{load_documents, read_file};
 use crate::status::Status;
-use crate::words::query_word;
-use io_edge::{ReadErr, Shelf, Sink, read_whole, write_whole};
-use query_engine::{AnswerFault, CompileFault, answer, compile};
+use crate::words::split_words;
+use doc_table::Store;
+use io_edge::{Shelf, Sink, write_whole};
+use query_engine::{AnswerFault, CompileFault, Compiled, answer, compile};
 use std::alloc::Global;
+use xq_base::Pool;
 
 /// The most bytes of a query file.
 const QUERY_LIMIT: usize = 4096;
@@ -19,53 +27,91 @@ const QUERY_LIMIT: usize = 4096;
 /// The place of the query's word.
 const QUERY_WORD: usize = 1;
 
-/// The answer's bytes for a query's text, or why there is none.
-fn answer_text(alloc: Global, text: &[u8]) -> Result<Vec<u8>, Status>
-    ensures { TextAnswered text.now result }
+/// The most documents.
+const MOST_DOCUMENTS: usize = 16;
+
+/// A query's text, checked by the static rules.
+fn compile_text(alloc: Global, text: &[u8]) -> Result<Compiled, Status>
+    ensures { TextCompiled text.now result }
 {
-    let core = match compile(alloc, text) {
-        Ok(core) => core,
-        Err(CompileFault::NoMemory) => return Err(Status::NoMemory),
-        Err(CompileFault::Refused { code, offset }) => return Err(Status::Static { code, offset }),
-    };
-    match answer(alloc, &core) {
+    match compile(alloc, text) {
+        Ok(compiled) => Ok(compiled),
+        Err(CompileFault::NoMemory) => Err(Status::NoMemory),
+        Err(CompileFault::Refused { code, offset }) => Err(Status::Static { code, offset }),
+    }
+}
+
+/// The bytes of a query's value over the documents of a store, or why there are none.
+fn answer_over(
+    alloc: Global,
+    compiled: &Compiled,
+    store: &Store,
+    pool: &Pool,
+) -> Result<Vec<u8>, Status>
+    requires trees { trees_given (length pool.now) store.now ≡ true }
+    requires names { AreGiven pool.now store.now.docs }
+    requires roots { HaveRoots store.now }
+    ensures { (text : List ℕ) → IsCompiled text compiled.now → ValueGiven (documents_in pool.now store.now) text result }
+{
+    match answer(alloc, compiled, store, pool) {
         Ok(bytes) => Ok(bytes),
         Err(AnswerFault::NoMemory) => Err(Status::NoMemory),
         Err(AnswerFault::Dynamic { code, offset }) => Err(Status::Dynamic { code, offset }),
     }
 }
 
-/// The bytes of the query's file, or why there are none.
-fn read_query<F: Shelf>(alloc: Global, shelf: &mut F, query: &str) -> Result<Vec<u8>, Status>
+/// The bytes of the answer of a query over the documents of some names, or why there are none.
+fn reply<F: Shelf>(
+    alloc: Global,
+    query: &str,
+    names: &[String],
+    shelf: &mut F,
+) -> Result<Vec<u8>, Status>
+    requires few { length names.now ≤ most_documents }
+    requires different { AreDifferent (map string_bytes names.now) }
     ensures later { F.faults shelf.old ≤ F.faults shelf.new }
+    ensures cause { RisesWith (F.faults shelf.old) (F.faults shelf.new) result }
     ensures files { F.files shelf.new ≡ F.files shelf.old }
-    ensures asked { MayAppendName (F.asked shelf.old) (F.asked shelf.new) query.now }
-    ensures read { QueryRead (F.files shelf.old) query.now (F.faults shelf.old) (F.faults shelf.new) result }
+    ensures asked { AsksFirst (F.asked shelf.old) (F.asked shelf.new) (query.now ∷ map string_bytes names.now) }
+    ensures replies { Replies (F.files shelf.old) query.now (map string_bytes names.now) result }
 {
-    match read_whole(alloc, shelf, query, QUERY_LIMIT) {
-        Ok(text) => Ok(text),
-        Err(ReadErr::ReadFault) => Err(Status::ReadFault { word: QUERY_WORD }),
-        Err(ReadErr::TooLarge) => Err(Status::TooLarge {
-            word: Some(QUERY_WORD),
-        }),
-        Err(ReadErr::NoMemory) => Err(Status::NoMemory),
+    let text = match read_file(alloc, shelf, query, QUERY_WORD, QUERY_LIMIT) {
+        Ok(text) => text,
+        Err(status) => return Err(status),
+    };
+    let compiled = match compile_text(alloc, text.as_slice()) {
+        Ok(compiled) => compiled,
+        Err(status) => return Err(status),
+    };
+    let mut pool = Pool::new(alloc);
+    let mut store = Store::new(alloc);
+    match load_documents(alloc, names, shelf, &mut pool, &mut store) {
+        Ok(()) => answer_over(alloc, &compiled, &store, &pool),
+        Err(status) => Err(status),
     }
 }
 
-/// Answers the query of a name.
-fn run<F: Shelf, O: Sink>(alloc: Global, query: &str, shelf: &mut F, out: &mut O) -> Status
+/// Answers a query over the documents of some names.
+fn run<F: Shelf, O: Sink>(
+    alloc: Global,
+    query: &str,
+    names: &[String],
+    shelf: &mut F,
+    out: &mut O,
+) -> Status
+    requires different { AreDifferent (map string_bytes names.now) }
     ensures form { result ≡ Usage → ⊥ }
-    ensures answered { AnsweredOver (F.files shelf.old) query.now (O.taken out.old) (O.taken out.new) result }
+    ensures count { CountExactly (map string_bytes names.now) result }
+    ensures answered { Answered (F.files shelf.old) query.now (map string_bytes names.now) (O.taken out.old) (O.taken out.new) result }
     ensures quiet { Quiet (O.taken out.old) (O.taken out.new) result }
     ensures reason { HasReason (F.faults shelf.old) (F.faults shelf.new) (O.faults out.old) (O.faults out.new) result }
     ensures files { F.files shelf.new ≡ F.files shelf.old }
-    ensures asked { MayAppendName (F.asked shelf.old) (F.asked shelf.new) query.now }
+    ensures asked { AsksFirst (F.asked shelf.old) (F.asked shelf.new) (query.now ∷ map string_bytes names.now) }
 {
-    let text = match read_query(alloc, shelf, query) {
-        Ok(text) => text,
-        Err(status) => return status,
-    };
-    let bytes = match answer_text(alloc, text.as_slice()) {
+    if names.len() > MOST_DOCUMENTS {
+        return Status::TooLarge { word: None };
+    }
+    let bytes = match reply(alloc, query, names, shelf) {
         Ok(bytes) => bytes,
         Err(status) => return status,
     };
@@ -83,27 +129,33 @@ fn status_of<F: Shelf, O: Sink>(
     out: &mut O,
 ) -> Status
     ensures usage { UsageExactly (map string_bytes words.now) result }
-    ensures answered { (query : List ℕ) → IsQueryWord (map string_bytes words.now) query → AnsweredOver (F.files shelf.old) query (O.taken out.old) (O.taken out.new) result }
+    ensures count { (query : List ℕ) (names : List (List ℕ)) → AreWords (map string_bytes words.now) query names → CountExactly names result }
+    ensures answered { (query : List ℕ) (names : List (List ℕ)) → AreWords (map string_bytes words.now) query names → Answered (F.files shelf.old) query names (O.taken out.old) (O.taken out.new) result }
+    ensures exactly { Exactly (F.files shelf.old) (map string_bytes words.now) result }
     ensures quiet { Quiet (O.taken out.old) (O.taken out.new) result }
     ensures reason { HasReason (F.faults shelf.old) (F.faults shelf.new) (O.faults out.old) (O.faults out.new) result }
     ensures files { F.files shelf.new ≡ F.files shelf.old }
     ensures asked { AsksAtMost (map string_bytes words.now) (F.asked shelf.old) (F.asked shelf.new) }
 {
-    match query_word(words) {
+    match split_words(words) {
         None => Status::Usage,
-        Some(query) => run(alloc, query, shelf, out),
+        Some((query, names)) => run(alloc, query, names, shelf, out),
     }
 }
 
 /// Answers a command line: the words without the program's name, the files that they name, the sink of
-/// the answer and the sink of the diagnosis. Words in form are `run` and the name of a query's file.
+/// the answer and the sink of the diagnosis. Words in form are `run`, the name of a query's file, and the
+/// names of at most 16 documents, no two of which are the same.
 ///
-/// Done: the static rules accept the query, no evaluation fails, and `out` has taken exactly the
-/// serialisation of its value. Static: the static rules refuse it. Dynamic: this is its first failure.
+/// Done: the static rules accept the query, each document is read, no evaluation fails, and `out` has
+/// taken exactly the serialisation of the query's value. Static: the static rules refuse it. Dynamic:
+/// this is its first failure. DocRefused: this document is the first that isn't read, and why.
 /// ReadFault and WriteFault: the shelf or `out` counted a fault in this call. TooLarge: the query's file
-/// has more than 4,096 bytes. Usage: exactly where the words aren't in form. NoMemory: want of memory.
-/// `out` has taken nothing but under Done and WriteFault, where it has taken a prefix of the answer;
-/// `diag` has taken the status's line, or a prefix where it counted a fault (own rule).
+/// has more than 4,096 bytes, a document's more than 67,108,864, or there are more than 16 documents.
+/// Usage: exactly where the words aren't in form. NoMemory: want of memory. The query's file comes
+/// first, then its static rules, then the documents in their order. `out` has taken nothing but under
+/// Done and WriteFault, where it has taken a prefix of the answer; `diag` has taken the status's line, or
+/// a prefix where it counted a fault (own rule).
 pub fn pathfinder<F: Shelf, O: Sink, E: Sink>(
     alloc: Global,
     words: &[String],
@@ -112,7 +164,9 @@ pub fn pathfinder<F: Shelf, O: Sink, E: Sink>(
     diag: &mut E,
 ) -> Status
     ensures usage { UsageExactly (map string_bytes words.now) result }
-    ensures answered { (query : List ℕ) → IsQueryWord (map string_bytes words.now) query → AnsweredOver (F.files shelf.old) query (O.taken out.old) (O.taken out.new) result }
+    ensures count { (query : List ℕ) (names : List (List ℕ)) → AreWords (map string_bytes words.now) query names → CountExactly names result }
+    ensures answered { (query : List ℕ) (names : List (List ℕ)) → AreWords (map string_bytes words.now) query names → Answered (F.files shelf.old) query names (O.taken out.old) (O.taken out.new) result }
+    ensures exactly { Exactly (F.files shelf.old) (map string_bytes words.now) result }
     ensures quiet { Quiet (O.taken out.old) (O.taken out.new) result }
     ensures reason { HasReason (F.faults shelf.old) (F.faults shelf.new) (O.faults out.old) (O.faults out.new) result }
     ensures files { F.files shelf.new ≡ F.files shelf.old }
