@@ -1,0 +1,3 @@
+pub mod EveryAxis
+pub mod EverySecond
+pub mod Rooted

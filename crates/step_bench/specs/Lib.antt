@@ -1,0 +1,5 @@
+pub mod Axes
+pub mod Contexts
+pub mod Faults
+pub mod Lines
+pub mod Steps

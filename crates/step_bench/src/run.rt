@@ -1,0 +1,82 @@
+//! The work of the program over a reader and a writer.
+ghost use Rattle.std.specs.Prelude.{◌≡◌, ◌≤◌, IfOk, false, length};
+ghost use Rattle.doc_table.specs.Places.{is_lone};
+ghost use Rattle.staircase.specs.Hits.{Ascending};
+ghost use Rattle.staircase.specs.Joins.{AreNodes};
+ghost use Rattle.step_bench.specs.Faults.{most_bytes};
+
+use crate::axes::{AXES, axis_named};
+use crate::context::context_of;
+use crate::fault::Fault;
+use crate::input::read_all;
+use crate::line::line_of;
+use crate::step::take_step;
+use doc_shred::shred;
+use doc_table::Fragment;
+use staircase::Ctx;
+use std::alloc::Global;
+use std::env::Args;
+use std::io::{Read, Write};
+use xq_base::{Axis, Pool};
+
+/// The axes that the words behind the program's name name; all twelve, where there is none.
+fn axes_of(alloc: Global, words: Args) -> Result<Vec<Axis>, Fault> {
+    let mut axes = Vec::new(alloc);
+    for word in words.skip(1) {
+        match axis_named(word.as_str()) {
+            Some(axis) => axes.push(axis)?,
+            None => return Err(Fault::Usage),
+        }
+    }
+    if axes.is_empty() {
+        axes.extend_from_slice(&AXES)?;
+    }
+    Ok(axes)
+}
+
+/// The tree of a document's bytes. Its root is no attribute.
+#[tactic(auto, using(crate::proofs::Rooted::document_not_lone))]
+fn tree_of(alloc: Global, bytes: &[u8]) -> Result<Fragment, Fault>
+    requires { length bytes.now ≤ most_bytes }
+    ensures { IfOk result (λ tree. is_lone tree ≡ false) }
+{
+    let mut pool = Pool::new(alloc);
+    let tree = shred(alloc, bytes, &mut pool)?;
+    Ok(tree)
+}
+
+/// Takes the step on an axis, and writes its line.
+fn write_step<W: Write>(
+    alloc: Global,
+    tree: &Fragment,
+    axis: Axis,
+    context: &[Ctx],
+    out: &mut W,
+) -> Result<(), Fault>
+    requires ascending { Ascending context.now }
+    requires nodes { AreNodes tree.now context.now }
+{
+    let taken = take_step(alloc, tree, axis, context)?;
+    let line = line_of(alloc, axis, taken)?;
+    match out.write_all(line.as_slice()) {
+        Ok(()) => Ok(()),
+        Err(_) => Err(Fault::Write),
+    }
+}
+
+/// Reads a document, and writes the line of the step on each axis that the words name.
+pub fn run<R: Read, W: Write>(
+    alloc: Global,
+    words: Args,
+    input: &mut R,
+    out: &mut W,
+) -> Result<(), Fault> {
+    let axes = axes_of(alloc, words)?;
+    let bytes = read_all(alloc, input)?;
+    let tree = tree_of(alloc, bytes.as_slice())?;
+    let context = context_of(alloc, &tree)?;
+    for axis in &axes {
+        write_step(alloc, &tree, *axis, context.as_slice(), out)?;
+    }
+    Ok(())
+}
