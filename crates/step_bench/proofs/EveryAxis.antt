@@ -1,14 +1,8 @@
 -- A word that none of the twelve axes has as its name is the name of no axis.
-use Rattle.std.proofs.Common.{◌≡◌, ℕ, List, [], ◌∷◌}
+use Rattle.std.proofs.Common.{◌≡◌, ℕ, List}
 use Rattle.xq_base.specs.declared.axis.Axis.{Axis}
 use Rattle.xq_base.specs.declared.axis.Axis.TheVariants as a
-use Rattle.step_bench.specs.Axes.{name_of, AreOthers}
-
--- the twelve axes, in the order in which steps are taken
-abbrev pub twelve : List Axis
-twelve =
-    a.SelfNode ∷ a.Child ∷ a.Descendant ∷ a.DescendantOrSelf ∷ a.Attribute ∷ a.Parent ∷ a.Ancestor ∷ a.AncestorOrSelf
-    ∷ a.PrecedingSibling ∷ a.FollowingSibling ∷ a.Preceding ∷ a.Following ∷ []
+use Rattle.step_bench.specs.Axes.{name_of, twelve, AreOthers}
 
 pub no_axis : (word : List ℕ) (axis : Axis) → AreOthers twelve word → name_of axis ≡ word → ⊥
 no_axis word a.SelfNode o = o.0

@@ -24,3 +24,8 @@ code_of f.Write = 5
 code_of f.Usage = 6
 code_of f.NoMemory = 7
 code_of f.TooLarge = 9
+
+-- the document has too many bytes
+abbrev pub IsLarge : Fault → Type 0
+IsLarge f.TooLarge = Unit {0}
+IsLarge _ = ⊥

@@ -1,47 +1,31 @@
 //! The bytes of the standard input.
-ghost use Rattle.std.specs.Prelude.{◌≡◌, ◌≤◌, length, vec_len, IfOk, OnOk};
-ghost use Rattle.step_bench.specs.Faults.{most_bytes};
+ghost use Rattle.std.specs.Prelude.{◌≡◌, IfOk, IfErr, vec_items};
+ghost use Rattle.step_bench.specs.Faults.{IsLarge};
+ghost use Rattle.step_bench.specs.Inputs.{IsWhole, IsLong};
 
 use crate::fault::Fault;
 use std::alloc::Global;
-use std::io::Read;
+use std::io::{ErrorKind, Read};
 
 /// The most bytes of a document.
 const MOST_BYTES: usize = 67_108_864;
 
-/// The bytes that are asked for at once.
-const CHUNK: usize = 65_536;
-
-/// Appends the next bytes of a reader, and answers their number, 0 at its end.
-fn read_next<R: Read>(
-    reader: &mut R,
-    buffer: &mut [u8],
-    bytes: &mut Vec<u8>,
-) -> Result<usize, Fault>
-    requires { vec_len bytes.old ≤ most_bytes }
-    ensures { OnOk result (vec_len bytes.new ≤ most_bytes) }
-{
-    let count = match reader.read(buffer) {
-        Ok(count) => count,
-        Err(_) => return Err(Fault::Read),
-    };
-    if count > MOST_BYTES - bytes.len() {
-        return Err(Fault::TooLarge);
-    }
-    bytes.extend_from_slice(&buffer[..count])?;
-    Ok(count)
-}
-
-/// All bytes of a reader, within the limit.
-pub fn read_all<R: Read>(alloc: Global, reader: &mut R) -> Result<Vec<u8>, Fault>
-    ensures { IfOk result (λ bytes. length bytes.items ≤ most_bytes) }
+/// All bytes of a reader, within the limit. One byte more is asked for.
+pub fn read_all<R: Read + Drop>(alloc: Global, reader: R) -> Result<Vec<u8>, Fault>
+    ensures whole { IfOk result (λ bytes. IsWhole (R.remaining reader) bytes.items) }
+    ensures large { IfErr result (λ fault. IsLarge fault → IsLong (R.remaining reader)) }
 {
     let mut bytes = Vec::new(alloc);
-    let mut buffer = vec![in alloc; 0u8; CHUNK]?;
-    for _turn in 0..u64::MAX {
-        if read_next(reader, buffer.as_mut_slice(), &mut bytes)? == 0 {
-            return Ok(bytes);
+    let mut limited = reader.take(MOST_BYTES as u64 + 1);
+    match limited.read_to_end(&mut bytes) {
+        Ok(_) => {
+            if bytes.len() > MOST_BYTES {
+                Err(Fault::TooLarge)
+            } else {
+                Ok(bytes)
+            }
         }
+        Err(e) if e.kind() == ErrorKind::OutOfMemory => Err(Fault::NoMemory),
+        Err(_) => Err(Fault::Read),
     }
-    Err(Fault::TooLarge)
 }

@@ -18,10 +18,12 @@ use std::process::ExitCode;
 
 fn main(rt: HostRuntime) -> ExitCode {
     let alloc = rt.alloc();
-    let mut input = rt.stdin();
     let mut out = rt.stdout();
     let done = match env::args(&rt) {
-        Ok(words) => run(alloc, words, &mut input, &mut out),
+        Ok(mut words) => {
+            let _program = words.next();
+            run(alloc, words, rt.stdin(), &mut out)
+        }
         Err(_) => Err(Fault::Usage),
     };
     match done {
