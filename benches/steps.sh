@@ -5,6 +5,7 @@
 #     benches/steps.sh
 #     NESTED="8191 65535" WIDE=1000000 AXES="child following" benches/steps.sh    other sizes, other axes
 set -u
+export LC_ALL=C
 top=$(cd "$(dirname "${BASH_SOURCE[0]}")/.." && pwd)
 program=$top/crates/step_bench/out/step_bench
 nested=${NESTED:-8191 16383 32767 65535}
