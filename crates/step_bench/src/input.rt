@@ -1,0 +1,31 @@
+//! The bytes of the standard input.
+ghost use Rattle.std.specs.Prelude.{◌≡◌, IfOk, IfErr, vec_items};
+ghost use Rattle.step_bench.specs.Faults.{IsLarge};
+ghost use Rattle.step_bench.specs.Inputs.{IsWhole, IsLong};
+
+use crate::fault::Fault;
+use std::alloc::Global;
+use std::io::{ErrorKind, Read};
+
+/// The most bytes of a document.
+const MOST_BYTES: usize = 67_108_864;
+
+/// All bytes of a reader, within the limit. One byte more is asked for.
+pub fn read_all<R: Read + Drop>(alloc: Global, reader: R) -> Result<Vec<u8>, Fault>
+    ensures whole { IfOk result (λ bytes. IsWhole (R.remaining reader) bytes.items) }
+    ensures large { IfErr result (λ fault. IsLarge fault → IsLong (R.remaining reader)) }
+{
+    let mut bytes = Vec::new(alloc);
+    let mut limited = reader.take(MOST_BYTES as u64 + 1);
+    match limited.read_to_end(&mut bytes) {
+        Ok(_) => {
+            if bytes.len() > MOST_BYTES {
+                Err(Fault::TooLarge)
+            } else {
+                Ok(bytes)
+            }
+        }
+        Err(e) if e.kind() == ErrorKind::OutOfMemory => Err(Fault::NoMemory),
+        Err(_) => Err(Fault::Read),
+    }
+}
