@@ -11,6 +11,7 @@ pub mod Gathering
 pub mod Lexical
 pub mod LineLaws
 pub mod MiscLaws
+pub mod NameNumbers
 pub mod Numbers
 pub mod Passes
 pub mod Passing

@@ -4,7 +4,7 @@ use Rattle.std.specs.Str.{bytes_eq}
 use Rattle.xq_base.specs.declared.item.TextId.{TextId}
 use Rattle.doc_table.specs.Tree.{Tree, Label, OfDocument, OfElement, OfAttribute, OfText, OfComment, OfInstruction, text_in, pair_with}
 use Rattle.doc_table.specs.Axes.{id_eq}
-use Rattle.doc_table.specs.Spine.{Open, Spine, is_text, open_with, rows_in, has_name_in, with_attribute, with_leaf, closed, is_some_open, text_last}
+use Rattle.doc_table.specs.Spine.{Open, Spine, is_text, open_with, rows_in, has_name_in, attributes_open, with_attribute, with_leaf, closed, is_some_open, text_last}
 use Rattle.doc_shred.specs.Content.{Text}
 use Rattle.doc_shred.specs.Document.{lines_from}
 use Rattle.doc_shred.specs.Walk.{Nodes, Walk, attributes, starts, step, content, put_list, miscs, root}
@@ -27,6 +27,10 @@ pub record Grown (added : ℕ) (old new : Spine TextId) : Type 0 where
   pub root : new.root ≡ None
   pub depth : length new.nodes ≡ length old.nodes
   pub rows : rows_in new ≡ rows_in old + added
+
+-- the numbers of the names of the innermost open element's attributes
+abbrev pub name_numbers : List (Open TextId) → List ℕ
+name_numbers nodes = map (λ a. a.0.0) (attributes_open nodes)
 
 -- an attribute was read and added
 pub record AttributeAdded (texts : Texts) (old new : Spine TextId) (bytes rest : List ℕ) : Type 0 where

@@ -1,11 +1,11 @@
 //! Start tags: an element is opened, and its attributes are added.
-ghost use Rattle.std.specs.Prelude.{◌≡◌, ◌<◌, ◌≤◌, ◌+◌, ◌-◌, ◌^◌, [], true, length, IfOk, Err, None, ◌⊎◌, string_bytes};
+ghost use Rattle.std.specs.Prelude.{◌≡◌, ◌<◌, ◌≤◌, ◌+◌, ◌-◌, ◌^◌, [], true, length, IfOk, OnOk, Err, None, ◌⊎◌, string_bytes};
 ghost use Rattle.xq_base.specs.Pool.{NoRepeats};
 ghost use Rattle.doc_table.specs.Spine.{takes_attributes, attributes_open};
 ghost use Rattle.doc_shred.specs.declared.fault.Fault.TheVariants.{Malformed};
 ghost use Rattle.doc_shred.specs.Outcomes.{IsRead};
 ghost use Rattle.doc_shred.specs.Reading as r;
-ghost use Rattle.doc_shred.specs.Standing.{IsLater, AttributeAdded, AttributeTwice, AttributesAdded, Walked, Takes, Starts};
+ghost use Rattle.doc_shred.specs.Standing.{IsLater, AttributeAdded, AttributeTwice, AttributesAdded, Walked, Takes, Starts, name_numbers};
 ghost use Rattle.doc_shred.specs.Walk as w;
 
 use crate::bytes::strip;
@@ -14,6 +14,7 @@ use crate::markup::{equals, has_attribute, name, space, tag_end};
 use crate::names::OpenNames;
 use crate::values::value;
 use doc_table::{FragmentBuilder, Kind};
+use indexmap::IndexSet;
 use std::alloc::Global;
 use xq_base::Pool;
 
@@ -37,18 +38,22 @@ fn attribute(alloc: Global, bytes: &[u8]) -> Result<((&str, String), &[u8]), Fau
     }
 }
 
-/// Reads an attribute and adds it to the open element.
+/// Reads an attribute and adds it to the open element, whose attributes so far have these names.
+#[tactic(auto, using(crate::proofs::NameNumbers::name_there, crate::proofs::NameNumbers::name_absent, crate::proofs::NameNumbers::name_added))]
 fn add_attribute<'a>(
     alloc: Global,
     pool: &mut Pool,
     builder: &mut FragmentBuilder,
+    names: &mut IndexSet<u64>,
     bytes: &'a [u8],
 ) -> Result<&'a [u8], Fault>
     requires element { takes_attributes builder.old.nodes ≡ true }
+    requires names { names.old.keys ≡ name_numbers builder.old.nodes }
     requires room { length (attributes_open builder.old.nodes) + 1 < 2 ^ 32 - 1 }
     ensures later { IsLater pool.old pool.new }
     ensures added { IfOk result (λ rest. AttributeAdded pool.new builder.old builder.new bytes.now rest.now) }
     ensures different { IfOk result (λ _. NoRepeats pool.new) }
+    ensures names { OnOk result (names.new.keys ≡ name_numbers builder.new.nodes) }
     ensures refused { result ≡ Err Malformed → (r.attribute bytes.now ≡ None) ⊎ (AttributeTwice pool.new builder.old bytes.now × NoRepeats pool.new) }
 {
     let ((name, value), rest) = match attribute(alloc, bytes) {
@@ -56,7 +61,7 @@ fn add_attribute<'a>(
         Ok(read) => read,
     };
     let name = pool.intern(name)?;
-    if builder.has_attribute(name) {
+    if !names.insert(name.0)? {
         return Err(Fault::Malformed);
     }
     let value = pool.intern(value.as_str())?;
@@ -78,12 +83,13 @@ fn add_attributes<'a>(
     ensures added { IfOk result (λ rest. AttributesAdded pool.new builder.old builder.new bytes.now rest.now) }
     ensures refused { result ≡ Err Malformed → w.attributes bytes.now ≡ None }
 {
+    let mut names = IndexSet::new(alloc);
     let mut rest = bytes;
     for _turn in 0..bytes.len() + 1 {
         if !has_attribute(rest) {
             return Ok(rest);
         }
-        match add_attribute(alloc, pool, builder, rest) {
+        match add_attribute(alloc, pool, builder, &mut names, rest) {
             Err(error) => return Err(error),
             Ok(after) => rest = after,
         }

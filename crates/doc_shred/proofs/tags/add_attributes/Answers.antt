@@ -24,6 +24,7 @@ loop-turn-preserved c =
       later_later c.args.pool.now c.loop-turn.pool c.add_attribute.new.pool c.loop-turn.invariant.0 c.add_attribute.ensures.later,
       so_far_goes_on c.loop-turn.pool c.args.builder.now c.loop-turn.builder (length c.args.bytes.now + 1) c.loop-turn._turn c.loop-turn.rest.now c.args.bytes.now (omega arith) c.requires.element c.loop-turn.invariant.1
           c.add_attribute.new.pool c.add_attribute.new.builder c.in-Ok.after.now on c.add_attribute.ensures.later c.in-Ok.ensures.different c.in-Ok.ensures.added,
+      c.in-Ok.ensures.names,
     )
 
 pub returns-clause-refused : goal.returns-clause-refused
