@@ -24,7 +24,7 @@ query_limit = 4096
 abbrev pub document_limit : ℕ
 document_limit = 67108864
 
--- these bytes were read of a name's file: they are the whole file, where the shelf tells its files
+-- these bytes are a name's file, where the shelf tells its files; of another shelf nothing is known
 abbrev pub IsFile : Option Files → List ℕ → List ℕ → Type 0
 IsFile None name bytes = Unit {0}
 IsFile (Some files) name bytes = files name ≡ Some bytes

@@ -52,8 +52,8 @@ abbrev pub Replies : Option Files → List ℕ → List (List ℕ) → Result (V
 Replies files query names (Ok bytes) = IsRun files query names (Writes bytes.items)
 Replies files query names (Err status) = NoAnswer files query names status
 
--- Where words are in form, what the status and the answer's sink say. The files are those that were read, which are the told ones
--- where the shelf tells its files.
+-- Where words are in form, what the status and the answer's sink say. The texts and documents are those of the told files;
+-- over a shelf that doesn't tell its files, this says that there are such ones.
 abbrev pub Answered : Option Files → List ℕ → List (List ℕ) → Option (List ℕ) → Option (List ℕ) → Status → Type 0
 Answered files query names old new s.Done = (bytes : List ℕ) × IsRun files query names (Writes bytes) × TakesOf old new bytes
 Answered files query names old new s.WriteFault = (bytes : List ℕ) × IsRun files query names (Writes bytes) × TakesPrefix old new bytes
