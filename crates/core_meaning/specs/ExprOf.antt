@@ -4,7 +4,7 @@ use Rattle.doc_table.specs.Values.{item_of_atom}
 use Rattle.core_meaning.specs.PlainCore as c
 use Rattle.core_meaning.specs.PlainCore.{PlainCore, PlainCores, Binds, Keys}
 use Rattle.core_meaning.specs.Size.{nodes, nodes_of_all, nodes_of_binds, nodes_of_keys}
-use Rattle.core_meaning.specs.Expr.{Site, Rule, Apply, Walk, Make, IsOf, TreatAs, ConvertTo, CastTo, CastableTo, FailWith, Order, Expr, Exprs, Spine, Lit, Empty, Var, Seq, Let, For, If, Sorted, Call, no_more, one_more, Leaf, ForBind, LetBind, WhereBind}
+use Rattle.core_meaning.specs.Expr.{Site, Apply, Walk, Make, IsOf, TreatAs, ConvertTo, CastTo, CastableTo, FailWith, Order, Expr, Exprs, Spine, Lit, Empty, Var, Seq, Let, For, If, Sorted, Call, no_more, one_more, Leaf, ForBind, LetBind, WhereBind}
 
 abbrev pub site_at : ℕ → ℕ → Site
 site_at n o = record { number = n; offset = o }
