@@ -61,13 +61,14 @@ pub fn shred(alloc: Global, bytes: &[u8], pool: &mut Pool) -> Result<Fragment, S
 mod tests {
     use super::*;
     use std::test::Fail;
+    use xq_base::HashKeys;
 
     /// Whether a document is read, and else why not.
     fn outcome(alloc: Global, text: &[u8]) -> Result<u32, ShredFault> {
         if text.len() > 67_108_864 {
             return Err(ShredFault::NoMemory);
         }
-        let mut pool = Pool::new(alloc);
+        let mut pool = Pool::new(alloc, HashKeys::new(1, 2));
         let fragment = shred(alloc, text, &mut pool)?;
         Ok(doc_table::Rows::len(&fragment))
     }

@@ -20,7 +20,7 @@ use staircase::Ctx;
 use std::alloc::Global;
 use std::env::Args;
 use std::io::{Read, Write};
-use xq_base::{Axis, Pool};
+use xq_base::{Axis, HashKeys, Pool};
 
 /// The axes of these names.
 fn axes_named(alloc: Global, words: Args) -> Result<Vec<Axis>, Fault>
@@ -54,7 +54,7 @@ fn tree_of(alloc: Global, bytes: &[u8]) -> Result<Fragment, Fault>
     ensures tree { IfOk result (λ tree. IsTreeOf bytes.now tree) }
     ensures root { IfOk result (λ tree. is_lone tree ≡ false) }
 {
-    let mut pool = Pool::new(alloc);
+    let mut pool = Pool::new(alloc, HashKeys::new(1, 2));
     let tree = shred(alloc, bytes, &mut pool)?;
     Ok(tree)
 }
