@@ -2,6 +2,9 @@
 ghost use Rattle.std.specs.Prelude.{◌≡◌, ◌≤◌, true, IfOk, Err, length};
 ghost use Rattle.doc_table.specs.Tree.{Tree, with_texts};
 ghost use Rattle.doc_table.specs.Given.{tree_given};
+ghost use Rattle.doc_table.specs.Axes.{id_eq};
+ghost use Rattle.doc_table.specs.Spine.{is_empty_id};
+ghost use Rattle.doc_table.specs.DocumentTrees.{is_document_tree};
 ghost use Rattle.doc_shred.specs.declared.refusal.ShredFault.TheVariants.{NotWellFormed, Unsupported, TooDeep};
 ghost use Rattle.doc_shred.specs.Content.{Text};
 ghost use Rattle.doc_shred.specs.Document.{IsDocument, IsUnsupported, IsTooDeep};
@@ -34,6 +37,9 @@ pub fn shred(alloc: Global, bytes: &[u8], pool: &mut Pool) -> Result<Fragment, S
     ensures level { IfOk result (λ fragment. ¬ IsTooDeep (with_texts pool.new fragment)) }
     ensures supported { IfOk result (λ _. ¬ IsUnsupported bytes.now) }
 
+    // One element and no text stand among the children of the document node.
+    ensures document { IfOk result (λ fragment. is_document_tree id_eq is_empty_id fragment ≡ true) }
+
     // The pool gave the numbers of its texts.
     ensures given { IfOk result (λ fragment. tree_given (length pool.new) fragment ≡ true) }
 
@@ -51,6 +57,7 @@ pub fn shred(alloc: Global, bytes: &[u8], pool: &mut Pool) -> Result<Fragment, S
     }
     builder.close();
     let fragment = builder.finish();
+    fragment.validity();
     if is_too_deep(&fragment) {
         return Err(ShredFault::TooDeep);
     }

@@ -11,9 +11,9 @@ use Rattle.doc_table.specs.Paths.{Path, is_same, is_prefix, is_less, is_child, h
 use Rattle.doc_table.specs.Enc.{enc, line_in}
 use Rattle.doc_table.specs.Axes.{id_eq, on_axis, on_self, on_descendant, on_ancestor, selects, selects_label, test_of}
 use Rattle.doc_table.specs.Places.{path_at, names_node, node_at, is_lone, RowsTell}
-use Rattle.doc_table.specs.Sound.{is_sound}
-use Rattle.doc_table.specs.Spine.{is_empty_id}
+use Rattle.doc_table.specs.Attributes.{attributes_apart}
 use Rattle.doc_table.proofs.ByRows.{same}
+use Rattle.doc_table.proofs.RowNodes.{named_row, lone_parts, attribute_label, owner_element}
 use Rattle.staircase.specs.declared.hits.Hit.{Hit}
 use Rattle.staircase.specs.declared.kinds.Ctx.{Ctx}
 use Rattle.staircase.specs.declared.seen.Seen.{Seen}
@@ -22,9 +22,7 @@ use Rattle.staircase.specs.Joins.{AreNodes, Reaches, place_of}
 use Rattle.staircase.specs.Made.{row_found}
 use Rattle.staircase.specs.Parts.{In}
 use Rattle.staircase.specs.Seen.{seen_of, is_element}
-use Rattle.staircase.proofs.Attributing.{owner-element}
-use Rattle.staircase.proofs.Owning.{attribute-label, selects-pair, to-hit, to-all, in-attribute_parts, lone-parts}
-use Rattle.staircase.proofs.Touching.{node-row}
+use Rattle.staircase.proofs.Owning.{selects-pair, to-hit, to-all, in-attribute_parts}
 
 -- a node whose axis holds an attribute: the attribute itself, or its row
 abbrev pub Holds : Axis → Ctx → Ctx → Type 0
@@ -105,24 +103,24 @@ holds axis t c h b n m z e = go (is_lone t) refl
   where
     go : (d : Bool) → is_lone t ≡ d → Holds axis c h
     go true l =
-        let p = lone-parts t (place_of c) l n in
-        let q = lone-parts t (place_of h) l m in
+        let p = lone_parts t (place_of c) l n in
+        let q = lone_parts t (place_of h) l m in
         let from : node_at t (place_of c) ≡ root-path = ap (λ x. cond x root-path (record { steps = path_at t c.pre; attr = c.attr })) l in
         let to : node_at t (place_of h) ≡ root-path = ap (λ x. cond x root-path (record { steps = path_at t h.pre; attr = h.attr })) l in
         (p.0 ∙ sym q.0, inl (holds-lone axis (subst (λ x. on_axis axis x root-path ≡ true) from (subst (λ x. on_axis axis (node_at t (place_of c)) x ≡ true) to e)), p.1 ∙ sym q.1))
     go false l =
         let from : node_at t (place_of c) ≡ record { steps = path_at t c.pre; attr = c.attr } = ap (λ x. cond x root-path (record { steps = path_at t c.pre; attr = c.attr })) l in
         let to : node_at t (place_of h) ≡ record { steps = path_at t h.pre; attr = h.attr } = ap (λ x. cond x root-path (record { steps = path_at t h.pre; attr = h.attr })) l in
-        holds-plain axis t c h b (node-row t (place_of c) b n) (node-row t (place_of h) b m) (ne_eqb h.attr 0 (λ x. omega arith))
+        holds-plain axis t c h b (named_row t (place_of c) b n) (named_row t (place_of h) b m) (ne_eqb h.attr 0 (λ x. omega arith))
         (subst (λ x. on_axis axis x (record { steps = path_at t h.pre; attr = h.attr }) ≡ true) from (subst (λ x. on_axis axis (node_at t (place_of c)) x ≡ true) to e))
 
-pub attributes-complete : (axis : Axis) (tested : NodeTest) (t : Tree TextId) (seen : List Seen) (cs : List Ctx) (h : Ctx) → RowsTell t → is_sound id_eq is_empty_id t ≡ true → AreNodes t cs
+pub attributes-complete : (axis : Axis) (tested : NodeTest) (t : Tree TextId) (seen : List Seen) (cs : List Ctx) (h : Ctx) → RowsTell t → attributes_apart t ≡ true → AreNodes t cs
     → ((c : Ctx) → In c cs → axis ≡ a.Attribute → c.attr ≡ 0 → row_found seen c.pre ≡ Some (seen_of axis tested t c.pre))
     → names_node t (place_of h) ≡ true → 0 < h.attr → Reaches axis tested t cs h → In (record { pre = h.pre; attr = h.attr; iter = h.iter }) (attribute_parts axis tested t seen cs)
 attributes-complete axis tested t seen cs h b s nodes found name z r =
     let c : Ctx = r.0 in
     let p = and_parts (on_axis axis (node_at t (place_of c)) (node_at t (place_of h))) (selects_label id_eq axis (test_of tested) (label_at t (node_at t (place_of h)))) r.3 in
-    let q = selects-pair axis tested (nth_pair (line_in (enc t) h.pre).attributes h.attr) (sym (ap (selects_label id_eq axis (test_of tested)) (attribute-label t (place_of h) b s name z)) ∙ p.1) in
+    let q = selects-pair axis tested (nth_pair (line_in (enc t) h.pre).attributes h.attr) (sym (ap (selects_label id_eq axis (test_of tested)) (attribute_label t (place_of h) b s name z)) ∙ p.1) in
     let w = holds axis t c h b (nodes c r.1) name z p.0 in
     let hit : Hit = record { pre = h.pre; attr = h.attr; iter = h.iter } in
     in-attribute_parts axis tested t seen cs c hit r.1 (elim w.1 [
@@ -142,7 +140,7 @@ attributes-complete axis tested t seen cs h b s nodes found name z r =
         let zero : nat_eq c.attr 0 ≡ true = eq-eqb c.attr 0 d in
         let is_axis : is_attribute_axis axis ≡ true = ap is_attribute_axis o in
         let own = found c i o d in
-        let kind : is_element (line_in (enc t) c.pre).kind ≡ true = ap (λ y. is_element (line_in (enc t) y).kind) p ∙ ap is_element (owner-element t (place_of h) s name z) in
+        let kind : is_element (line_in (enc t) c.pre).kind ≡ true = ap (λ y. is_element (line_in (enc t) y).kind) p ∙ ap is_element (owner_element t (place_of h) name z) in
         let place : ℕ = h.attr - 1 in
         let number : h.attr ≡ suc place = omega arith in
         let one : 1 + place ≡ h.attr = omega arith in

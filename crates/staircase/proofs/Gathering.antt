@@ -12,6 +12,7 @@ use Rattle.doc_table.specs.Axes.{on_axis}
 use Rattle.doc_table.specs.Places.{row_path, RowsTell}
 use Rattle.doc_table.specs.Touched.{adds_owner, is_context, touched}
 use Rattle.doc_table.proofs.Marks.{bridge}
+use Rattle.doc_table.proofs.RowNodes.{named_row}
 use Rattle.staircase.specs.declared.chain.Start.{Start}
 use Rattle.staircase.specs.declared.hits.Hit.{Hit}
 use Rattle.staircase.specs.declared.kinds.Ctx.{Ctx}
@@ -30,10 +31,9 @@ use Rattle.staircase.proofs.NearTouch.{near-axis, near-own}
 use Rattle.staircase.proofs.Parting.{place-in, same-at}
 use Rattle.staircase.proofs.Rowing.{context-row, stands-from, stands-to, touch-axis, touch-own}
 use Rattle.staircase.proofs.Standing.{chain-on, on-chain}
-use Rattle.staircase.proofs.Touching.{node-row}
 
 pub row-of : (axis : Axis) (t : Tree TextId) (cs : List Ctx) → RowsTell t → AreNodes t cs → (c : Ctx) → In c cs → c.pre < length (enc t)
-row-of axis t cs b nodes c i = node-row t (place_of c) b (nodes c i)
+row-of axis t cs b nodes c i = named_row t (place_of c) b (nodes c i)
 
 abbrev pub wanted : Axis → Tree TextId → List Ctx → ℕ → Bool
 wanted axis t cs = touched axis t (places cs)

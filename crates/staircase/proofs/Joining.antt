@@ -13,6 +13,7 @@ use Rattle.doc_table.specs.Axes.{id_eq, on_axis, selects_label, test_of, steps_t
 use Rattle.doc_table.specs.Places.{Place, names_node, node_at, is_lone, row_path}
 use Rattle.doc_table.specs.Touched.{touched}
 use Rattle.doc_table.proofs.Marks.{bridge}
+use Rattle.doc_table.proofs.RowNodes.{row_named, row_not_named, named_row, row_node}
 use Rattle.staircase.specs.declared.hits.Hit.{Hit}
 use Rattle.staircase.specs.declared.kinds.Ctx.{Ctx}
 use Rattle.staircase.specs.declared.seen.Seen.{Seen}
@@ -27,11 +28,10 @@ use Rattle.staircase.proofs.Attained.{attributes-complete}
 use Rattle.staircase.proofs.RowsRead.{read-found}
 use Rattle.staircase.proofs.Elements.{in-left, in-right, in-parts, in-contains, contains-in}
 use Rattle.staircase.proofs.Gathering.{own-touched, row-of, wanted}
-use Rattle.staircase.proofs.Naming.{node-at, passes-is, row-named, row-not_named}
+use Rattle.staircase.proofs.Naming.{passes-is}
 use Rattle.staircase.proofs.Owning.{Reached, attributes-sound}
 use Rattle.staircase.proofs.Rowing.{context-row}
 use Rattle.staircase.proofs.Tallying.{not-lone}
-use Rattle.staircase.proofs.Touching.{node-row}
 
 -- ---- rows
 
@@ -39,11 +39,11 @@ row-reached : (axis : Axis) (test : NodeTest) (t : Tree TextId) (cs : List Ctx) 
 row-reached axis test t cs rows seen r h s =
     let v : ℕ = s.row in
     let q : Place = record { pre = v; attr = 0 } in
-    let l : is_lone t ≡ false = not-lone axis test t v r.sound s.within false s.lets_in in
+    let l : is_lone t ≡ false = not-lone axis test t v r.apart s.within false s.lets_in in
     let on : on_axis axis (node_at t (place_of s.ctx)) (node_at t q) ≡ true = rw l s.on in
-    let label : selects_label id_eq axis (test_of test) (label_at t (node_at t q)) ≡ true = ap (λ z. selects_label id_eq axis (test_of test) (label_at t (cond z (record { steps = []; attr = 0 }) (row_path t v)))) l ∙ sym (passes-is axis test t v (node-at t v r.sound l s.within)) ∙ s.lets_in in
+    let label : selects_label id_eq axis (test_of test) (label_at t (node_at t q)) ≡ true = ap (λ z. selects_label id_eq axis (test_of test) (label_at t (cond z (record { steps = []; attr = 0 }) (row_path t v)))) l ∙ sym (passes-is axis test t v (row_node t v r.apart l s.within)) ∙ s.lets_in in
     let there : Reached axis test t cs (record { iter = s.ctx.iter; pre = v; attr = 0 }) = record {
-      named = row-named t v l s.within;
+      named = row_named t v l s.within;
       reaches = (s.ctx, s.there, refl, and_from (on_axis axis (node_at t (place_of s.ctx)) (node_at t q)) (selects_label id_eq axis (test_of test) (label_at t (node_at t q))) on label);
     } in
     subst (λ (z : Hit). Reached axis test t cs (ctx_of z)) (sym s.is) there
@@ -54,17 +54,17 @@ row-stands axis test t cs rows seen r h z name x =
     go (is_lone t) refl name0 (subst (λ y. steps_to id_eq axis (test_of test) t (node_at t (place_of x.0)) (node_at t (record { pre = h.pre; attr = y })) ≡ true) z x.3)
   where
     go : (d : Bool) → is_lone t ≡ d → names_node t (record { pre = h.pre; attr = 0 }) ≡ true → steps_to id_eq axis (test_of test) t (node_at t (place_of x.0)) (node_at t (record { pre = h.pre; attr = 0 })) ≡ true → Stands axis test t cs false (record { pre = h.pre; attr = h.attr; iter = h.iter })
-    go true l n s = absurd (row-not_named t h.pre l n)
+    go true l n s = absurd (row_not_named t h.pre l n)
     go false l n s =
         let q : Place = record { pre = h.pre; attr = 0 } in
-        let within : h.pre < length (enc t) = node-row t q (bridge t) n in
+        let within : h.pre < length (enc t) = named_row t q (bridge t) n in
         let p = and_parts (on_axis axis (node_at t (place_of x.0)) (node_at t q)) (selects_label id_eq axis (test_of test) (label_at t (node_at t q))) s in
         record {
           ctx = x.0;
           there = x.1;
           row = h.pre;
           within = within;
-          lets_in = passes-is axis test t h.pre (node-at t h.pre r.sound l within) ∙ sym (ap (λ y. selects_label id_eq axis (test_of test) (label_at t (cond y (record { steps = []; attr = 0 }) (row_path t h.pre)))) l) ∙ p.1;
+          lets_in = passes-is axis test t h.pre (row_node t h.pre r.apart l within) ∙ sym (ap (λ y. selects_label id_eq axis (test_of test) (label_at t (cond y (record { steps = []; attr = 0 }) (row_path t h.pre)))) l) ∙ p.1;
           on = rw l at p.0;
           is = ap (λ y. record { pre = h.pre; attr = y; iter = h.iter }) z ∙ ap (λ y. record { pre = h.pre; attr = 0; iter = y }) (sym x.2);
         }
@@ -77,7 +77,7 @@ hit-reached axis test t cs rows seen first r a h i = elim (in-parts h first (att
     | inl o ↦ absurd o
     | inr f ↦ row-reached axis test t cs rows seen r h f
   ]
-  | inr y ↦ attributes-sound axis test t seen cs h (bridge t) r.sound r.nodes y
+  | inr y ↦ attributes-sound axis test t seen cs h (bridge t) r.apart r.nodes y
 ]
 
 own-found : (axis : Axis) (test : NodeTest) (t : Tree TextId) (cs : List Ctx) (rows : List ℕ) (seen : List Seen) → Ready axis test t cs rows seen → (c : Ctx) → In c cs → axis ≡ a.Attribute → c.attr ≡ 0 → row_found seen c.pre ≡ Some (seen_of axis test t c.pre)
@@ -101,7 +101,7 @@ reached-hit axis test t cs rows seen first r a h name x = go (nat_eq h.attr 0) r
     go false e =
         let hit : Hit = record { pre = h.pre; attr = h.attr; iter = h.iter } in
         let ne : h.attr ≡ 0 → ⊥ = eqb-false h.attr 0 e in
-        in-right hit first (attribute_parts axis test t seen cs) (attributes-complete axis test t seen cs h (bridge t) r.sound r.nodes (λ c i g z. own-found axis test t cs rows seen r c i g z) name (omega (arith, ne)) x)
+        in-right hit first (attribute_parts axis test t seen cs) (attributes-complete axis test t seen cs h (bridge t) r.apart r.nodes (λ c i g z. own-found axis test t cs rows seen r c i g z) name (omega (arith, ne)) x)
 
 pub joined : (axis : Axis) (test : NodeTest) (t : Tree TextId) (cs : List Ctx) (rows : List ℕ) (seen : List Seen) (first hits : List Hit) (old new : List Ctx) → Ready axis test t cs rows seen → Gains (Stands axis test t cs false) [] first → hits ≡ first ++ attribute_parts axis test t seen cs → AppendsHits hits old new → Joins axis test t cs old new
 joined axis test t cs rows seen first hits old new r a e p =

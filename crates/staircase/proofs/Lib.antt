@@ -11,7 +11,6 @@ pub mod Gaining
 pub mod Gathering
 pub mod Joining
 pub mod Kin
-pub mod Labels
 pub mod Linking
 pub mod Looking
 pub mod Naming

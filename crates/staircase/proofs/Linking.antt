@@ -3,7 +3,7 @@ use Rattle.std.proofs.Common.{inl, inr, ◌⊎◌, ◌≡◌, ℕ, zero, suc, �
 use Rattle.std.specs.Prelude.{nat_eq, nat_lt, nat_le, slice_index_or}
 use Rattle.std.proofs.lemmas.Bool.{eq-eqb, ne_eqb, eqb-true, lt-ltb, ltb-true, and_parts, and_from, cases_order, cases_lt}
 use Rattle.std.proofs.lemmas.Bool.Decides.{nat_tests}
-use Rattle.std.proofs.lemmas.List.{length-reverse, get_or-reverse}
+use Rattle.std.proofs.lemmas.List.{length-reverse, get_or-reverse, get_or_append_left, get_or-append-add}
 use Rattle.xq_base.specs.declared.axis.Axis.{Axis}
 use Rattle.staircase.specs.declared.chain.Start.{Start}
 use Rattle.staircase.specs.declared.hits.Hit.{Hit}
@@ -13,7 +13,6 @@ use Rattle.staircase.specs.Chains.{row_at, kept_at, is_sibling, leads_on, lined,
 use Rattle.staircase.specs.Made.{iter_for}
 use Rattle.staircase.specs.Parts.{In, AreRows, IsRising, Splits}
 use Rattle.staircase.proofs.Elements.{in-left, in-right, in-parts}
-use Rattle.staircase.proofs.Labels.{at-left, at-right}
 use Rattle.staircase.proofs.Parting.{same-at, in-at, place-in}
 
 -- ---- searches
@@ -49,11 +48,11 @@ links-more axis rows links n o a near = record {
 }
   where
     here : (k : ℕ) → k < n + 1 → (k < n) ⊎ (n ≤ k) → Nearest axis rows (row_at rows k) k (kept_at (links ++ o ∷ []) k)
-    here k l (inl m) = subst (λ z. Nearest axis rows (row_at rows k) k z) (sym (at-left links (o ∷ []) k None (omega (arith, a.many)))) (a.nearest k m)
+    here k l (inl m) = subst (λ z. Nearest axis rows (row_at rows k) k z) (sym (get_or_append_left links (o ∷ []) None k (omega (arith, a.many)))) (a.nearest k m)
     here k l (inr m) =
         let last : k ≡ length links + 0 = omega (arith, a.many) in
         let q : n ≡ k = omega arith in
-        subst (λ z. Nearest axis rows (row_at rows k) k z) (sym (ap (kept_at (links ++ o ∷ [])) last ∙ at-right links (o ∷ []) 0 None)) (subst (λ z. Nearest axis rows (row_at rows z) z o) q near)
+        subst (λ z. Nearest axis rows (row_at rows k) k z) (sym (ap (kept_at (links ++ o ∷ [])) last ∙ get_or-append-add links (o ∷ []) 0 None)) (subst (λ z. Nearest axis rows (row_at rows z) z o) q near)
 
 -- ---- chains fall
 

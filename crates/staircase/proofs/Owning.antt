@@ -1,18 +1,18 @@
 -- The attributes on an axis are those that are gathered.
-use Rattle.std.proofs.Common.{inl, inr, ◌≡◌, ℕ, zero, suc, ◌+◌, ◌-◌, ◌<◌, Bool, true, false, ◌&&◌, cond, List, [], ◌∷◌, length, refl, sym, ap, ◌∙◌, subst, arith, Option, Some, None}
-use Rattle.std.specs.Prelude.{nat_eq, nat_lt, nat_le}
-use Rattle.std.proofs.lemmas.Bool.{eq-eqb, ne_eqb, eqb-true, eqb-false, lt-ltb, le-leb, and_parts, and_from, or_right, false≢true}
+use Rattle.std.proofs.Common.{inl, inr, ◌≡◌, ℕ, zero, suc, ◌+◌, ◌-◌, ◌<◌, Bool, true, false, cond, List, [], ◌∷◌, length, refl, sym, ap, ◌∙◌, subst, arith, Option, Some, None}
+use Rattle.std.specs.Prelude.{nat_eq}
+use Rattle.std.proofs.lemmas.Bool.{eq-eqb, ne_eqb, eqb-true, eqb-false, lt-ltb, le-leb, and_from, or_right, false≢true}
 use Rattle.xq_base.specs.declared.item.TextId.{TextId}
 use Rattle.xq_base.specs.declared.axis.Axis.{Axis}
 use Rattle.xq_base.specs.declared.axis.Axis.TheVariants as a
 use Rattle.xq_base.specs.declared.axis.NodeTest.{NodeTest}
-use Rattle.doc_table.specs.Tree.{Label, OfDocument, OfElement, OfAttribute, OfText, OfComment, OfInstruction, Tree, Branch, AttributeNode, root_of, attributes_of}
-use Rattle.doc_table.specs.Paths.{Path, is_same, is_prefix, nth_pair, label_at, label_in, label_of_pair}
-use Rattle.doc_table.specs.Enc.{Line, enc, line_in, row_attributes}
+use Rattle.doc_table.specs.Tree.{Tree, AttributeNode}
+use Rattle.doc_table.specs.Paths.{Path, is_same, is_prefix, nth_pair, label_at, label_of_pair}
+use Rattle.doc_table.specs.Enc.{enc, line_in}
 use Rattle.doc_table.specs.Axes.{id_eq, on_axis, on_self, on_attribute, on_descendant, on_ancestor, selects, selects_label, test_of, steps_to}
 use Rattle.doc_table.specs.Places.{Place, path_at, names_node, node_at, is_lone, RowsTell}
-use Rattle.doc_table.specs.Sound.{is_sound}
-use Rattle.doc_table.specs.Spine.{is_empty_id}
+use Rattle.doc_table.specs.Attributes.{attributes_apart}
+use Rattle.doc_table.proofs.RowNodes.{row_not_named, named_row, attribute_label}
 use Rattle.staircase.specs.declared.hits.Hit.{Hit}
 use Rattle.staircase.specs.declared.kinds.Ctx.{Ctx}
 use Rattle.staircase.specs.declared.seen.Seen.{Seen}
@@ -22,8 +22,6 @@ use Rattle.staircase.specs.Joins.{AreNodes, Reaches, place_of}
 use Rattle.staircase.specs.Made.{row_found}
 use Rattle.staircase.specs.Parts.{In}
 use Rattle.staircase.proofs.Elements.{in-left, in-right, in-parts}
-use Rattle.staircase.proofs.Naming.{Node, node-at, IsNoAttribute, row-not_named}
-use Rattle.staircase.proofs.Touching.{node-row}
 
 -- ---- gathered attributes
 
@@ -74,50 +72,6 @@ to-all axis tested c first (y ∷ pairs) (suc place) x e s =
     in-right (record { pre = c.pre; attr = first + suc place; iter = c.iter }) (attribute_hit axis tested c first y.0) (all_hits axis tested c (first + 1) pairs)
     (subst (λ k. In (record { pre = c.pre; attr = k; iter = c.iter }) (all_hits axis tested c (first + 1) pairs)) z (to-all axis tested c (first + 1) pairs place x e s))
 
--- ---- the label of an attribute
-
-plain-attributes : (l : Label TextId) → IsNoAttribute l → row_attributes l ≡ attributes_of l
-plain-attributes OfDocument p = refl
-plain-attributes (OfElement n as') p = refl
-plain-attributes (OfAttribute n v) p = absurd p
-plain-attributes (OfText v) p = refl
-plain-attributes (OfComment v) p = refl
-plain-attributes (OfInstruction n v) p = refl
-
--- what stands at attribute number k of a row
-label-is : (t : Tree TextId) (v k : ℕ) → Node t v → label_at t (record { steps = path_at t v; attr = suc k }) ≡ label_of_pair (nth_pair (line_in (enc t) v).attributes (suc k))
-label-is t v k n =
-    ap (label_in (suc k)) n.held.is
-    ∙ ap (λ z. label_of_pair (nth_pair z (suc k))) (sym (ap (λ (z : Line TextId). z.attributes) n.held.line_is ∙ plain-attributes (root_of n.held.sub) n.plain))
-
-lone-pair : (t : Tree TextId) → is_lone t ≡ true → label_at t (record { steps = []; attr = 0 }) ≡ label_of_pair (nth_pair (line_in (enc t) 0).attributes 1)
-lone-pair (Branch OfDocument f) e = absurd (false≢true e)
-lone-pair (Branch (OfElement n as') f) e = absurd (false≢true e)
-lone-pair (Branch (OfAttribute n v) f) e = refl
-lone-pair (Branch (OfText v) f) e = absurd (false≢true e)
-lone-pair (Branch (OfComment v) f) e = absurd (false≢true e)
-lone-pair (Branch (OfInstruction n v) f) e = absurd (false≢true e)
-
-pub lone-parts : (t : Tree TextId) (p : Place) → is_lone t ≡ true → names_node t p ≡ true → (p.pre ≡ 0) × (p.attr ≡ 1)
-lone-parts t p l e =
-    let b = and_parts (nat_eq p.pre 0) (nat_eq p.attr 1) (sym (ap (λ z. cond z (nat_eq p.pre 0 && nat_eq p.attr 1) (nat_lt p.pre (length (enc t)) && nat_le p.attr (length (line_in (enc t) p.pre).attributes))) l) ∙ e) in
-    (eqb-true p.pre 0 b.0, eqb-true p.attr 1 b.1)
-
--- the label of a node that is an attribute
-pub attribute-label : (t : Tree TextId) (p : Place) → RowsTell t → is_sound id_eq is_empty_id t ≡ true → names_node t p ≡ true → 0 < p.attr → label_at t (node_at t p) ≡ label_of_pair (nth_pair (line_in (enc t) p.pre).attributes p.attr)
-attribute-label t p b s e z = go (is_lone t) refl
-  where
-    go : (d : Bool) → is_lone t ≡ d → label_at t (node_at t p) ≡ label_of_pair (nth_pair (line_in (enc t) p.pre).attributes p.attr)
-    go true l =
-        let q = lone-parts t p l e in
-        rw (l, q.0, q.1) (lone-pair t l)
-    go false l =
-        let one : p.attr ≡ suc (p.attr - 1) = omega arith in
-        ap (λ k. label_at t (cond k (record { steps = []; attr = 0 }) (record { steps = path_at t p.pre; attr = p.attr }))) l
-        ∙ ap (λ k. label_at t (record { steps = path_at t p.pre; attr = k })) one
-        ∙ label-is t p.pre (p.attr - 1) (node-at t p.pre s l (node-row t p b e))
-        ∙ ap (λ k. label_of_pair (nth_pair (line_in (enc t) p.pre).attributes k)) (sym one)
-
 pub selects-pair : (axis : Axis) (tested : NodeTest) (o : Option (TextId × TextId)) → selects_label id_eq axis (test_of tested) (label_of_pair o) ≡ true → (x : TextId × TextId) × (o ≡ Some x) × (selects id_eq axis (test_of tested) AttributeNode (Some x.0) ≡ true)
 selects-pair axis tested None e = absurd (false≢true e)
 selects-pair axis tested (Some x) e = (x, refl, e)
@@ -167,19 +121,19 @@ passes-label : (axis : Axis) (tested : NodeTest) (o : Option (TextId × TextId))
 passes-label axis tested o x e s = ap (λ z. selects_label id_eq axis (test_of tested) (label_of_pair z)) e ∙ s
 
 -- a node that is an attribute, on an axis that holds it
-self-sound : (axis : Axis) (tested : NodeTest) (t : Tree TextId) (cs : List Ctx) (c : Ctx) (h : Hit) → RowsTell t → is_sound id_eq is_empty_id t ≡ true → AreNodes t cs → In c cs → nat_eq c.attr 0 ≡ false → holds_self axis ≡ true → In h (own_hit axis tested c (nth_pair (line_in (enc t) c.pre).attributes c.attr)) → Reached axis tested t cs (ctx_of h)
+self-sound : (axis : Axis) (tested : NodeTest) (t : Tree TextId) (cs : List Ctx) (c : Ctx) (h : Hit) → RowsTell t → attributes_apart t ≡ true → AreNodes t cs → In c cs → nat_eq c.attr 0 ≡ false → holds_self axis ≡ true → In h (own_hit axis tested c (nth_pair (line_in (enc t) c.pre).attributes c.attr)) → Reached axis tested t cs (ctx_of h)
 self-sound axis tested t cs c h b s nodes i z e k =
     let r = own-from axis tested c (nth_pair (line_in (enc t) c.pre).attributes c.attr) h k in
     let ne : c.attr ≡ 0 → ⊥ = eqb-false c.attr 0 z in
     let name = nodes c i in
-    let label = attribute-label t (place_of c) b s name (omega (arith, ne)) in
+    let label = attribute_label t (place_of c) b s name (omega (arith, ne)) in
     let p : Path = node_at t (place_of c) in
     let on : steps_to id_eq axis (test_of tested) t p p ≡ true = and_from (on_axis axis p p) (selects_label id_eq axis (test_of tested) (label_at t p)) (self-on axis p e (on-self p)) (ap (selects_label id_eq axis (test_of tested)) label ∙ passes-label axis tested (nth_pair (line_in (enc t) c.pre).attributes c.attr) r.pair r.is_pair r.passes) in
     let own : Reached axis tested t cs c = record { named = name; reaches = (c, i, refl, on) } in
     subst (λ (y : Hit). Reached axis tested t cs (ctx_of y)) (sym r.is) own
 
 -- the attributes of a row
-row-sound : (tested : NodeTest) (t : Tree TextId) (cs : List Ctx) (c : Ctx) (h : Hit) → RowsTell t → is_sound id_eq is_empty_id t ≡ true → AreNodes t cs → In c cs → c.attr ≡ 0 → In h (all_hits a.Attribute tested c 1 (line_in (enc t) c.pre).attributes) → Reached a.Attribute tested t cs (ctx_of h)
+row-sound : (tested : NodeTest) (t : Tree TextId) (cs : List Ctx) (c : Ctx) (h : Hit) → RowsTell t → attributes_apart t ≡ true → AreNodes t cs → In c cs → c.attr ≡ 0 → In h (all_hits a.Attribute tested c 1 (line_in (enc t) c.pre).attributes) → Reached a.Attribute tested t cs (ctx_of h)
 row-sound tested t cs c h b s nodes i z k =
     let r = all-from a.Attribute tested c 1 (line_in (enc t) c.pre).attributes h k in
     let j : ℕ = r.place in
@@ -187,13 +141,13 @@ row-sound tested t cs c h b s nodes i z k =
     go (is_lone t) refl r.place r.within r.gathered name
   where
     go : (d : Bool) → is_lone t ≡ d → (j : ℕ) → j < length (line_in (enc t) c.pre).attributes → Gathered a.Attribute tested c (1 + j) (nth_pair (line_in (enc t) c.pre).attributes (suc j)) h → names_node t (record { pre = c.pre; attr = 0 }) ≡ true → Reached a.Attribute tested t cs (ctx_of h)
-    go true l j w g name = absurd (row-not_named t c.pre l name)
+    go true l j w g name = absurd (row_not_named t c.pre l name)
     go false l j w g name =
         let one : 1 + j ≡ suc j = omega arith in
         let q : Place = record { pre = c.pre; attr = suc j } in
-        let row : c.pre < length (enc t) = node-row t (record { pre = c.pre; attr = 0 }) b name in
+        let row : c.pre < length (enc t) = named_row t (record { pre = c.pre; attr = 0 }) b name in
         let named : names_node t q ≡ true = rw (l, lt-ltb c.pre (length (enc t)) row, le-leb (suc j) (length (line_in (enc t) c.pre).attributes) w) refl in
-        let label = attribute-label t q b s named (omega arith) in
+        let label = attribute_label t q b s named (omega arith) in
         let from : node_at t (place_of c) ≡ record { steps = path_at t c.pre; attr = 0 } = ap (λ x. cond x (record { steps = []; attr = 0 }) (record { steps = path_at t c.pre; attr = c.attr })) l ∙ ap (λ x. record { steps = path_at t c.pre; attr = x }) z in
         let to : node_at t q ≡ record { steps = path_at t c.pre; attr = suc j } = ap (λ x. cond x (record { steps = []; attr = 0 }) (record { steps = path_at t c.pre; attr = suc j })) l in
         let on : on_attribute (record { steps = path_at t c.pre; attr = 0 }) (record { steps = path_at t c.pre; attr = suc j }) ≡ true = rw (ne_eqb (suc j) 0 (λ x. omega arith), prefix-self (path_at t c.pre)) refl in
@@ -202,7 +156,7 @@ row-sound tested t cs c h b s nodes i z k =
         let there : Reached a.Attribute tested t cs (record { iter = c.iter; pre = c.pre; attr = suc j }) = record { named = named; reaches = (c, i, refl, steps) } in
         subst (λ (y : Hit). Reached a.Attribute tested t cs (ctx_of y)) (sym (g.is ∙ ap (λ x. record { pre = c.pre; attr = x; iter = c.iter }) one)) there
 
-part-sound : (axis : Axis) (tested : NodeTest) (t : Tree TextId) (seen : List Seen) (cs : List Ctx) (c : Ctx) (h : Hit) → RowsTell t → is_sound id_eq is_empty_id t ≡ true → AreNodes t cs → In c cs → In h (attribute_part axis tested t seen c) → Reached axis tested t cs (ctx_of h)
+part-sound : (axis : Axis) (tested : NodeTest) (t : Tree TextId) (seen : List Seen) (cs : List Ctx) (c : Ctx) (h : Hit) → RowsTell t → attributes_apart t ≡ true → AreNodes t cs → In c cs → In h (attribute_part axis tested t seen c) → Reached axis tested t cs (ctx_of h)
 part-sound axis tested t seen cs c h b s nodes i k = go (nat_eq c.attr 0) refl (is_attribute_axis axis) refl (holds_self axis) refl k
   where
     row : axis ≡ a.Attribute → nat_eq c.attr 0 ≡ true → (o : Option Seen) → In h (row_hits axis tested t c o) → Reached axis tested t cs (ctx_of h)
@@ -233,5 +187,5 @@ in-attribute_parts axis tested t seen (d ∷ cs) c h i k = elim i [
   | inr r ↦ in-right h (attribute_part axis tested t seen d) (attribute_parts axis tested t seen cs) (in-attribute_parts axis tested t seen cs c h r k)
 ]
 
-pub attributes-sound : (axis : Axis) (tested : NodeTest) (t : Tree TextId) (seen : List Seen) (cs : List Ctx) (h : Hit) → RowsTell t → is_sound id_eq is_empty_id t ≡ true → AreNodes t cs → In h (attribute_parts axis tested t seen cs) → Reached axis tested t cs (ctx_of h)
+pub attributes-sound : (axis : Axis) (tested : NodeTest) (t : Tree TextId) (seen : List Seen) (cs : List Ctx) (h : Hit) → RowsTell t → attributes_apart t ≡ true → AreNodes t cs → In h (attribute_parts axis tested t seen cs) → Reached axis tested t cs (ctx_of h)
 attributes-sound axis tested t seen cs h b s nodes k = (let r = parts-in axis tested t seen cs h k in part-sound axis tested t seen cs r.0 h b s nodes r.1 r.2)

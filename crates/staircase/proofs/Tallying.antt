@@ -8,12 +8,12 @@ use Rattle.xq_base.specs.declared.axis.Axis.{Axis}
 use Rattle.xq_base.specs.declared.axis.NodeTest.{NodeTest}
 use Rattle.doc_table.specs.Tree.{Tree}
 use Rattle.doc_table.specs.Enc.{enc}
-use Rattle.doc_table.specs.Axes.{id_eq, on_axis}
+use Rattle.doc_table.specs.Axes.{on_axis}
 use Rattle.doc_table.specs.Places.{Place, names_node, node_at, is_lone, row_path}
-use Rattle.doc_table.specs.Sound.{is_sound}
-use Rattle.doc_table.specs.Spine.{is_empty_id}
+use Rattle.doc_table.specs.Attributes.{attributes_apart}
 use Rattle.doc_table.specs.Touched.{count, counts, is_context, is_result, touched, touched_rows, some_place}
 use Rattle.doc_table.proofs.Marks.{bridge}
+use Rattle.doc_table.proofs.RowNodes.{row_named, row_not_named, row_node}
 use Rattle.staircase.specs.declared.hits.Hit.{Hit}
 use Rattle.staircase.specs.declared.kinds.Ctx.{Ctx}
 use Rattle.staircase.specs.declared.seen.Seen.{Seen}
@@ -27,7 +27,7 @@ use Rattle.staircase.proofs.Coming.{has-below}
 use Rattle.staircase.proofs.Counting.{count-hits, count-parts, row_ctx}
 use Rattle.staircase.proofs.Elements.{in-contains, contains-in}
 use Rattle.staircase.proofs.Gathering.{axis-touched, own-touched, row-of}
-use Rattle.staircase.proofs.Naming.{node-at, is-node, lone-none, row-named, row-not_named}
+use Rattle.staircase.proofs.Naming.{is-node, lone-none}
 use Rattle.staircase.proofs.Some.{has-in, in-has, place-in_some, some-place_in}
 use Rattle.staircase.proofs.Touching.{own-is, own-up}
 
@@ -41,7 +41,7 @@ pub result-from : (axis : Axis) (t : Tree TextId) (cs : List Ctx) (v : ℕ) → 
 result-from axis t cs v l m o =
     let q : Place = record { pre = v; attr = 0 } in
     let on : on_axis axis (node_at t (place_of o.0)) (node_at t q) ≡ true = rw l o.2 in
-    and_from (names_node t q) (some_place (λ c. on_axis axis (node_at t c) (node_at t q)) (places cs)) (row-named t v l m) (place-in_some (λ c. on_axis axis (node_at t c) (node_at t q)) o.0 cs o.1 on)
+    and_from (names_node t q) (some_place (λ c. on_axis axis (node_at t c) (node_at t q)) (places cs)) (row_named t v l m) (place-in_some (λ c. on_axis axis (node_at t c) (node_at t q)) o.0 cs o.1 on)
 
 pub result-to : (axis : Axis) (t : Tree TextId) (cs : List Ctx) (v : ℕ) → is_result axis t (places cs) v ≡ true → (is_lone t ≡ false) × OnAxis axis t cs v
 result-to axis t cs v e =
@@ -51,12 +51,12 @@ result-to axis t cs v e =
     go (is_lone t) refl p.0 r
   where
     go : (d : Bool) → is_lone t ≡ d → names_node t (record { pre = v; attr = 0 }) ≡ true → (c : Ctx) × In c cs × (on_axis axis (node_at t (place_of c)) (node_at t (record { pre = v; attr = 0 })) ≡ true) → (is_lone t ≡ false) × OnAxis axis t cs v
-    go true l n r = absurd (row-not_named t v l n)
+    go true l n r = absurd (row_not_named t v l n)
     go false l n r = (l, (r.0, r.1, rw l at r.2))
 
 -- ---- what the gathered rows are
 
-pub not-lone : (axis : Axis) (test : NodeTest) (t : Tree TextId) (v : ℕ) → is_sound id_eq is_empty_id t ≡ true → v < length (enc t) → (counting : Bool) → lets counting (seen_of axis test t v) ≡ true → is_lone t ≡ false
+pub not-lone : (axis : Axis) (test : NodeTest) (t : Tree TextId) (v : ℕ) → attributes_apart t ≡ true → v < length (enc t) → (counting : Bool) → lets counting (seen_of axis test t v) ≡ true → is_lone t ≡ false
 not-lone axis test t v s l counting e = go (is_lone t) refl counting e
   where
     go : (d : Bool) → is_lone t ≡ d → (b : Bool) → lets b (seen_of axis test t v) ≡ true → d ≡ false
@@ -68,14 +68,14 @@ not-lone axis test t v s l counting e = go (is_lone t) refl counting e
 counted-from : (axis : Axis) (test : NodeTest) (t : Tree TextId) (cs : List Ctx) (rows : List ℕ) (seen : List Seen) → Ready axis test t cs rows seen → (old new : List Hit) → Gains (Stands axis test t cs true) old new → (h : Hit) → In h new → In h old ⊎ ((v : ℕ) × (v < length (enc t)) × (is_result axis t (places cs) v ≡ true) × (h ≡ row_hit v))
 counted-from axis test t cs rows seen r old new a h i = elim (a.sound h i) [
   | inl o ↦ inl o
-  | inr s ↦ (let l = not-lone axis test t s.row r.sound s.within true s.lets_in in
+  | inr s ↦ (let l = not-lone axis test t s.row r.apart s.within true s.lets_in in
       inr (s.row, s.within, result-from axis t cs s.row l s.within (s.ctx, s.there, s.on), s.is))
 ]
 
 counted-to : (axis : Axis) (test : NodeTest) (t : Tree TextId) (cs : List Ctx) (rows : List ℕ) (seen : List Seen) → Ready axis test t cs rows seen → (old new : List Hit) → Gains (Stands axis test t cs true) old new → (v : ℕ) → v < length (enc t) → is_result axis t (places cs) v ≡ true → In (row_hit v) new
 counted-to axis test t cs rows seen r old new a v l e =
     let o = result-to axis t cs v e in
-    a.complete (row_hit v) (record { ctx = o.1.0; there = o.1.1; row = v; within = l; lets_in = is-node axis test t v (node-at t v r.sound o.0 l); on = o.1.2; is = refl })
+    a.complete (row_hit v) (record { ctx = o.1.0; there = o.1.1; row = v; within = l; lets_in = is-node axis test t v (row_node t v r.apart o.0 l); on = o.1.2; is = refl })
 
 -- ---- counts
 

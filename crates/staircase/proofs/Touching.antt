@@ -1,16 +1,17 @@
 -- The rows that passes want are the rows that the step touches.
 use Rattle.std.proofs.Common.{inl, inr, ◌⊎◌, ◌≡◌, ℕ, zero, suc, ◌+◌, ◌<◌, ◌≤◌, max, min, Bool, true, false, ◌&&◌, ◌||◌, cond, List, [], ◌∷◌, length, refl, sym, ap, ◌∙◌, arith, Some, None}
 use Rattle.std.specs.Prelude.{nat_eq, nat_lt, nat_le}
-use Rattle.std.proofs.lemmas.Bool.{ne_eqb, eqb-true, le-ltb, lt-ltb, le-leb, lt-leb, ltb-true, cases_lt, and_parts, and_from, or_left, or_right, or_cases, false≢true, true≢false}
+use Rattle.std.proofs.lemmas.Bool.{ne_eqb, le-ltb, lt-ltb, le-leb, lt-leb, ltb-true, cases_lt, and_parts, and_from, or_left, or_right, or_cases, false≢true, true≢false}
 use Rattle.xq_base.specs.declared.item.TextId.{TextId}
 use Rattle.xq_base.specs.declared.axis.Axis.{Axis}
 use Rattle.xq_base.specs.declared.axis.Axis.TheVariants as a
 use Rattle.doc_table.specs.Tree.{Tree}
 use Rattle.doc_table.specs.Enc.{enc, line_in}
 use Rattle.doc_table.specs.Axes.{on_descendant, on_following, on_child}
-use Rattle.doc_table.specs.Places.{Place, path_at, row_path, below, child, names_node, is_lone, RowsTell}
+use Rattle.doc_table.specs.Places.{Place, path_at, row_path, below, child, RowsTell}
 use Rattle.doc_table.specs.Touched.{some_below, some_place, is_context, some_context, adds_owner, place_path}
 use Rattle.doc_table.proofs.ByRows.{by-descendant, by-following, by-child}
+use Rattle.doc_table.proofs.RowNodes.{named_row}
 use Rattle.staircase.specs.declared.kinds.Ctx.{Ctx}
 use Rattle.staircase.specs.Ahead.{has, any, UpFrom}
 use Rattle.staircase.specs.Hits.{Ascending}
@@ -20,19 +21,6 @@ use Rattle.staircase.specs.Passes.{follows}
 use Rattle.staircase.proofs.Coming.{has-below}
 use Rattle.staircase.proofs.Some.{both_ways, has-in, in-has, any-in, in-any, place-in_some, some-place_in, below-some, some-below, rows-has, rows-ascend, rows-sound, rows-complete}
 use Rattle.staircase.proofs.Looking.{after-attribute}
-
--- ---- nodes of the context stand on rows
-
-and-bool : (b x y : Bool) → cond b (x && y) (x && y) ≡ true → x ≡ true
-and-bool true x y e = (and_parts x y e).0
-and-bool false x y e = (and_parts x y e).0
-
-pub node-row : (t : Tree TextId) (p : Place) → RowsTell t → names_node t p ≡ true → p.pre < length (enc t)
-node-row t p b e = go (is_lone t) e
-  where
-    go : (l : Bool) → cond l (nat_eq p.pre 0 && nat_eq p.attr 1) (nat_lt p.pre (length (enc t)) && nat_le p.attr (length (line_in (enc t) p.pre).attributes)) ≡ true → p.pre < length (enc t)
-    go true e = omega (arith, b.some, eqb-true p.pre 0 (and_parts (nat_eq p.pre 0) (nat_eq p.attr 1) e).0)
-    go false e = ltb-true p.pre (length (enc t)) (and_parts (nat_lt p.pre (length (enc t))) (nat_le p.attr (length (line_in (enc t) p.pre).attributes)) e).0
 
 -- ---- the rows of the context
 
@@ -48,7 +36,7 @@ pub own-is : (axis : Axis) (cs : List Ctx) (v : ℕ) → has v (own axis cs) ≡
 own-is axis cs v = rows-has true (adds_owner axis) cs v ∙ some-place_like (λ p. nat_eq p.pre v && cond (nat_eq p.attr 0) true (adds_owner axis)) (λ p. nat_eq p.pre v && (nat_eq p.attr 0 || adds_owner axis)) (places cs) (λ c. ap (λ z. nat_eq c.pre v && z) (cond-or (nat_eq c.attr 0) (adds_owner axis)))
 
 pub own-up : (axis : Axis) (t : Tree TextId) (cs : List Ctx) → RowsTell t → Ascending cs → AreNodes t cs → UpFrom 0 (length (enc t)) (own axis cs)
-own-up axis t cs b up nodes = rows-ascend true (adds_owner axis) (length (enc t)) cs up (λ c i. node-row t (place_of c) b (nodes c i))
+own-up axis t cs b up nodes = rows-ascend true (adds_owner axis) (length (enc t)) cs up (λ c i. named_row t (place_of c) b (nodes c i))
 
 -- some row of an ascending list, and some row below n
 any-below : (p : ℕ → Bool) (n : ℕ) (xs : List ℕ) → UpFrom 0 n xs → any p xs ≡ some_below (λ c. has c xs && p c) n
@@ -92,7 +80,7 @@ end-within a n (x ∷ xs) u = omega (arith, u.1, end-within (suc x) n xs u.2)
 
 -- following
 pub owning-up : (t : Tree TextId) (cs : List Ctx) → RowsTell t → Ascending cs → AreNodes t cs → UpFrom 0 (length (enc t)) (owning cs)
-owning-up t cs b up nodes = rows-ascend false true (length (enc t)) cs up (λ c i. node-row t (place_of c) b (nodes c i))
+owning-up t cs b up nodes = rows-ascend false true (length (enc t)) cs up (λ c i. named_row t (place_of c) b (nodes c i))
 
 none-some : {x : ℕ} → None ≡ Some x → ⊥
 none-some e = cc
@@ -102,7 +90,7 @@ pub after-touches : (t : Tree TextId) (cs : List Ctx) (v : ℕ) → RowsTell t �
 after-touches t cs v b nodes l = rw (own-is a.Following cs v) (ap (λ z. is_context a.Following (places cs) v || z) (both_ways (any (λ c. follows (enc t) c v) (own a.Following cs) || any (λ c. nat_lt c v) (owning cs)) (some_place (λ c. on_following (place_path t c) (row_path t v)) (places cs)) to from))
   where
     row : (c : Ctx) → In c cs → c.pre < length (enc t)
-    row c i = node-row t (place_of c) b (nodes c i)
+    row c i = named_row t (place_of c) b (nodes c i)
 
     on : (c : ℕ) (k : ℕ) → c < length (enc t) → follows (enc t) c v ≡ true → on_following (record { steps = path_at t c; attr = k }) (row_path t v) ≡ true
     on c zero h f = by-following t c v b h l ∙ f
