@@ -26,3 +26,12 @@ pub record RefsInOrder : Type 0 where
 -- two references to nodes are equal exactly where they name one node
 abbrev pub OneReference : Type 0 → Type 0
 OneReference T = (trees : FragKey → Tree T) (r s : NodeRef) → names_node (trees r.frag) (place_of r) ≡ true → names_node (trees s.frag) (place_of s) ≡ true → (node_eq (node_of trees r) (node_of trees s) ≡ true) ↔ (r ≡ s)
+
+-- the list of a tree's nodes is in document order, has each once, and has exactly the nodes of the tree
+pub record ListsNodes {T : Type 0} (t : Tree T) : Type 0 where
+  pub ascends : Ascends path_less (node_paths t)
+  pub nodes : (p : Path) → In p (node_paths t) → has_node t p ≡ true
+  pub all : (p : Path) → has_node t p ≡ true → In p (node_paths t)
+
+abbrev pub NodesListed : Type 0 → Type 0
+NodesListed T = (t : Tree T) → ListsNodes t
