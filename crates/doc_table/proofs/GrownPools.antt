@@ -5,12 +5,18 @@ use Rattle.std.proofs.lemmas.List.{get_or-take, length-take}
 use Rattle.std.proofs.lemmas.List.Folds.{list_all-append}
 use Rattle.std.specs.Prelude.{slice_get, slice_index_or}
 use Rattle.std.specs.List.{list_all}
+use Rattle.xq_base.specs.declared.item.FragKey.{FragKey}
+use Rattle.xq_base.specs.declared.item.Item.{Item as Held}
+use Rattle.xq_base.specs.declared.item.Item.TheVariants as i
 use Rattle.xq_base.specs.declared.item.TextId.{TextId}
 use Rattle.xq_base.specs.Texts.{Text}
 use Rattle.doc_table.specs.Tree.{Label, OfDocument, OfElement, OfAttribute, OfText, OfComment, OfInstruction, Tree, Forest, Branch, no_more, one_more, pair_with, label_with, tree_with, forest_with, text_in, with_texts}
 use Rattle.doc_table.specs.Enc.{line_of, row_name, row_value, row_attributes, enc_at, encs_at}
 use Rattle.doc_table.specs.Given.{is_given, option_given, pair_given, line_given, tree_given}
-use Rattle.doc_table.specs.OtherTexts.{Grows, GrownPoolKeeps}
+use Rattle.doc_table.specs.Places.{node_at}
+use Rattle.doc_table.specs.Identity.{id_of_key, place_of}
+use Rattle.doc_table.specs.Items.{TextItem, UntypedItem, NodeItem, item_of}
+use Rattle.doc_table.specs.OtherTexts.{Grows, item_given, GrownPoolKeeps}
 
 number_kept : (old new : List Text) (n : ℕ) (text : Text) → slice_get old n ≡ Some text → Grows old new → slice_get new n ≡ Some text
 number_kept [] new n text e k = cc
@@ -64,10 +70,18 @@ module _ (old new : List Text) (grows : Grows old new) where
         let p = and_parts (list_all (line_given (length old)) (enc_at level t)) (list_all (line_given (length old)) (encs_at level ts)) (sym (list_all-append (line_given (length old)) (enc_at level t) (encs_at level ts)) ∙ h) in
         rw (lines_same level t p.0, forest_same level ts p.1) refl
 
+  item_same : (under : FragKey → Tree TextId) (item : Held) → item_given (length old) under item ≡ true → item_of new under item ≡ item_of old under item
+  item_same under (i.Int z) h = refl
+  item_same under (i.Str id) h = ap TextItem (id_same id h)
+  item_same under (i.Untyped id) h = ap UntypedItem (id_same id h)
+  item_same under (i.Bool b) h = refl
+  item_same under (i.Node r) h = ap (λ t. NodeItem (record { id = id_of_key r.frag; tree = t; path = node_at t (place_of r) })) (lines_same 0 (under r.frag) h)
+
 pub grown_pool_keeps : GrownPoolKeeps
 grown_pool_keeps old new grows = record {
   longer = omega (arith, ap length (sym grows), length-take (length old) new);
   numbers = λ n text e. number_kept old new n text e grows;
   texts = id_same old new grows;
   trees = λ t h. lines_same old new grows 0 t h;
+  items = item_same old new grows;
 }

@@ -7,9 +7,9 @@ use Rattle.xq_base.specs.declared.item.NodeRef.{NodeRef}
 use Rattle.doc_table.specs.Tree.{Tree}
 use Rattle.doc_table.specs.Places.{Place, place_eq, names_node, node_at}
 use Rattle.doc_table.specs.Identity.{tree_id_eq, Node, node_eq, node_less, node_of, id_of_key, place_of, ref_eq, ref_less}
-use Rattle.doc_table.specs.NodeLaws.{NodesInOrder, RefsInOrder, OneReference}
+use Rattle.doc_table.specs.NodeLaws.{DocumentOrder, ReferenceOrder, OneReference}
 use Rattle.doc_table.proofs.Orders.{same-key, references_in_order}
-use Rattle.doc_table.proofs.Ordering.{nodes_order, refs_order}
+use Rattle.doc_table.proofs.StrictOrders.{nodes_order, refs_order}
 
 pub same-place : (a b : Place) → place_eq a b ≡ true → a ≡ b
 same-place a b h =
@@ -22,11 +22,11 @@ same-ref r s h =
     let place : place_of r ≡ place_of s = same-place (place_of r) (place_of s) p.1 in
     ap (λ k. record { frag = k; pre = r.pre; attr = r.attr }) (same-key r.frag s.frag p.0) ∙ ap (λ (q : Place). record { frag = s.frag; pre = q.pre; attr = q.attr }) place
 
-pub nodes_in_order : {T : Type 0} → NodesInOrder T
-nodes_in_order = nodes_order
+pub document_order : {T : Type 0} → DocumentOrder T
+document_order = nodes_order
 
-pub refs_in_order : RefsInOrder
-refs_in_order = record { order = refs_order; exact = same-ref }
+pub reference_order : ReferenceOrder
+reference_order = record { order = refs_order; exact = same-ref }
 
 pub one_reference : {T : Type 0} → OneReference T
 one_reference {T} trees r s h k = (one, λ e. ap (λ z. node_eq (node_of trees r) (node_of trees z)) (sym e) ∙ nodes_order.eq_self (node_of trees r))

@@ -12,7 +12,7 @@ use Rattle.doc_table.specs.Sound.{is_sound}
 use Rattle.doc_table.specs.Ascending.{In, Ascends}
 use Rattle.doc_table.specs.NodeLaws.{ListsPlaces, OnePlace, PlacesOneToOne}
 use Rattle.doc_table.proofs.Ascending.{in-left, in-right, in-parts, in-map, in-unmap, after-all, ascends-append}
-use Rattle.doc_table.proofs.Ordering.{paths_order, places_order}
+use Rattle.doc_table.proofs.StrictOrders.{paths_order, places_order}
 use Rattle.doc_table.proofs.Orders.{places-in-order}
 use Rattle.doc_table.proofs.NodeLaws.{same-place}
 use Rattle.doc_table.proofs.NodePaths.{nodes_by_rows}

@@ -13,7 +13,7 @@ use Rattle.doc_table.specs.Paths.{Path, is_same, path_eq, label_at}
 use Rattle.doc_table.specs.Given.{tree_given}
 use Rattle.doc_table.specs.Axes.{Test, id_eq, selects_label, steps_to}
 use Rattle.doc_table.specs.Places.{Place, names_node, node_at}
-use Rattle.doc_table.specs.Identity.{TreeId, tree_id_eq, Node, node_eq, node_less, node_of, id_of_key, place_of, ref_less}
+use Rattle.doc_table.specs.Identity.{TreeId, tree_id_eq, tree_id_less, Node, node_eq, node_less, node_of, id_of_key, place_of, ref_less}
 use Rattle.doc_table.specs.Orders.{has, once}
 use Rattle.doc_table.specs.Nodes.{node_paths, node_in_tree}
 use Rattle.doc_table.specs.Sound.{is_sound}
@@ -21,10 +21,10 @@ use Rattle.doc_table.specs.Ascending.{In, Ascends, StandsOnce}
 use Rattle.doc_table.specs.Steps.{test_with, found, in_document_order}
 use Rattle.doc_table.specs.TestTexts.{test_given}
 use Rattle.doc_table.specs.NodeLaws.{TestsIgnoreIdentity, StepsIgnoreIdentity, with_id}
-use Rattle.doc_table.specs.StepLaws.{OrderedOnce, OneTreeEach, SameSets, Reaches, AreReached, StepByReferences, AreKept, StepByNumbers}
+use Rattle.doc_table.specs.StepLaws.{OrderedOnce, OneTreeEach, SameSets, Reaches, AreReached, ReachedTogether, StepByReferences, AreKept, StepByNumbers}
 use Rattle.doc_table.proofs.Orders.{same-key, references_in_order}
-use Rattle.doc_table.proofs.Ordering.{nodes_order, same-ids, same-lists}
-use Rattle.doc_table.proofs.Ascending.{in-left, in-right, in-parts, in-map, in-unmap, has-in, one_ascending, ascends-map, stands_once}
+use Rattle.doc_table.proofs.StrictOrders.{nodes_order, same-ids, same-lists}
+use Rattle.doc_table.proofs.Ascending.{in-left, in-right, in-parts, in-map, in-unmap, has-in, one_ascending, ascends-append, ascends-map, stands_once}
 use Rattle.doc_table.proofs.NodeLists.{lists_nodes}
 use Rattle.doc_table.proofs.PlaceLists.{one_place}
 use Rattle.doc_table.proofs.ByTexts.{alike_by_text, sound_by_text, steps_by_text}
@@ -95,6 +95,27 @@ same_sets ms ns one f g =
     one_ascending node_less nodes_order.less_turn (in_document_order ms) (in_document_order ns) a.ascends b.ascends
     (λ n h. in-order ns (λ x y h k e. one x y (g x h) (g y k) e) n (f n (a.from n h)))
     (λ n h. in-order ms one n (g n (b.from n h)))
+
+-- ---- from several trees
+
+pub reached_together : {T : Type 0} → ReachedTogether T
+reached_together {T} eq axis test trees cs ds hs ks before a b = record {
+  ascends = ascends-append ref_less hs ks a.ascends b.ascends (λ r s h k. later r s (a.sound r h) (b.sound s k));
+  named = λ r h. elim (in-parts r hs ks h) [ inl k ↦ a.named r k | inr k ↦ b.named r k ];
+  sound = λ r h. elim (in-parts r hs ks h) [
+    | inl k ↦ (let s = a.sound r k in (s.0, in-left s.0 cs ds s.1, s.2, s.3))
+    | inr k ↦ (let s = b.sound r k in (s.0, in-right s.0 cs ds s.1, s.2, s.3))
+  ];
+  complete = λ r h s. elim (in-parts s.0 cs ds s.1) [
+    | inl k ↦ in-left r hs ks (a.complete r h (s.0, k, s.2, s.3))
+    | inr k ↦ in-right r hs ks (b.complete r h (s.0, k, s.2, s.3))
+  ];
+}
+  where
+    later : (r s : NodeRef) → Reaches eq axis test trees cs r → Reaches eq axis test trees ds s → ref_less r s ≡ true
+    later r s h k =
+        let less : tree_id_less (id_of_key r.frag) (id_of_key s.frag) ≡ true = ap (λ z. tree_id_less (id_of_key z) (id_of_key s.frag)) (sym h.2) ∙ ap (λ z. tree_id_less (id_of_key h.0.frag) (id_of_key z)) (sym k.2) ∙ before h.0 k.0 h.1 k.1 in
+        rw less refl
 
 -- ---- steps by references
 

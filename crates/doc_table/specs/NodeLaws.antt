@@ -16,11 +16,11 @@ use Rattle.doc_table.specs.Ascending.{In, Ascends, IsOrder, StandsOnce}
 use Rattle.doc_table.specs.Steps.{found}
 
 -- document order is a strict order of nodes, and its equality is the one of identity and path
-abbrev pub NodesInOrder : Type 0 → Type 0
-NodesInOrder T = IsOrder (node_less {T = T}) node_eq
+abbrev pub DocumentOrder : Type 0 → Type 0
+DocumentOrder T = IsOrder (node_less {T = T}) node_eq
 
 -- so is the order of references, and two with one key, row and attribute are one
-pub record RefsInOrder : Type 0 where
+pub record ReferenceOrder : Type 0 where
   pub order : IsOrder ref_less ref_eq
   pub exact : (r s : NodeRef) → ref_eq r s ≡ true → r ≡ s
 

@@ -1,5 +1,5 @@
 -- What a step finds, by references (XQuery 1.0, section 3.2.1).
-use Rattle.std.specs.Prelude.{ℕ, ◌≡◌, Bool, true, List, [], length, map, flat_map, slice_get, Some}
+use Rattle.std.specs.Prelude.{ℕ, ◌≡◌, Bool, true, List, [], ◌++◌, length, map, flat_map, slice_get, Some}
 use Rattle.xq_base.specs.declared.axis.Axis.{Axis}
 use Rattle.xq_base.specs.declared.item.FragKey.{FragKey}
 use Rattle.xq_base.specs.declared.item.NodeRef.{NodeRef}
@@ -9,7 +9,7 @@ use Rattle.xq_base.specs.Texts.{Text, text_eq, is_empty_text}
 use Rattle.doc_table.specs.Tree.{Tree, text_in, with_texts}
 use Rattle.doc_table.specs.Axes.{Test, id_eq, steps_to}
 use Rattle.doc_table.specs.Places.{names_node, node_at}
-use Rattle.doc_table.specs.Identity.{Node, tree_id_eq, node_eq, node_less, node_of, place_of, ref_less}
+use Rattle.doc_table.specs.Identity.{Node, tree_id_eq, tree_id_less, node_eq, node_less, node_of, id_of_key, place_of, ref_less}
 use Rattle.doc_table.specs.Sound.{is_sound}
 use Rattle.doc_table.specs.Spine.{is_empty_id}
 use Rattle.doc_table.specs.Given.{tree_given}
@@ -40,6 +40,12 @@ module _ {T : Type 0} where
     pub named : (r : NodeRef) → In r hits → names_node (trees r.frag) (place_of r) ≡ true
     pub sound : (r : NodeRef) → In r hits → Reaches eq axis test trees context r
     pub complete : (r : NodeRef) → names_node (trees r.frag) (place_of r) ≡ true → Reaches eq axis test trees context r → In r hits
+
+-- what a step reaches from trees, and from later trees
+abbrev pub ReachedTogether : Type 0 → Type 0
+ReachedTogether T = (eq : T → T → Bool) (axis : Axis) (test : Test T) (trees : FragKey → Tree T) (cs ds hs ks : List NodeRef)
+    → ((c d : NodeRef) → In c cs → In d ds → tree_id_less (id_of_key c.frag) (id_of_key d.frag) ≡ true)
+    → AreReached eq axis test trees cs hs → AreReached eq axis test trees ds ks → AreReached eq axis test trees (cs ++ ds) (hs ++ ks)
 
 -- references to exactly the nodes that a step goes to are, as nodes, what the step finds
 abbrev pub StepByReferences : Type 0

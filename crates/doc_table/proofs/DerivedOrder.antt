@@ -7,7 +7,7 @@ use Rattle.xq_base.specs.declared.item.FragKey.{FragKey}
 use Rattle.xq_base.specs.declared.item.FragKey.TheVariants as f
 use Rattle.xq_base.specs.declared.item.NodeRef.{NodeRef}
 use Rattle.doc_table.specs.Identity.{tree_id_eq, tree_id_less, id_of_key, ref_eq, ref_less}
-use Rattle.doc_table.specs.RefOrder.{key_cmp, ref_cmp, ComparesInOrder}
+use Rattle.doc_table.specs.DerivedOrder.{key_cmp, ref_cmp, DerivedOrder}
 
 less-number : (m n : ℕ) → is_lt (nat_cmp m n) ≡ nat_lt m n
 less-number m n = at (nat_lt m n) (m == n)
@@ -76,5 +76,5 @@ same r s =
     same-then (key_cmp r.frag s.frag) (ordering_then (nat_cmp r.pre s.pre) (nat_cmp r.attr s.attr))
     ∙ rw (key-same r.frag s.frag, same-pair r.pre s.pre r.attr s.attr) refl
 
-pub compares_in_order : ComparesInOrder
-compares_in_order = record { key_less = key-less; key_same = key-same; less = less; same = same }
+pub derived_order : DerivedOrder
+derived_order = record { key_less = key-less; key_same = key-same; less = less; same = same }

@@ -15,7 +15,7 @@ abbrev pub ref_cmp : NodeRef → NodeRef → Ordering
 ref_cmp = (ref_order.ghosts).cmp
 
 -- what they answer
-pub record ComparesInOrder : Type 0 where
+pub record DerivedOrder : Type 0 where
   pub key_less : (k l : FragKey) → is_lt (key_cmp k l) ≡ tree_id_less (id_of_key k) (id_of_key l)
   pub key_same : (k l : FragKey) → is_eq (key_cmp k l) ≡ tree_id_eq (id_of_key k) (id_of_key l)
   pub less : (r s : NodeRef) → is_lt (ref_cmp r s) ≡ ref_less r s
