@@ -1,8 +1,6 @@
 -- Ascending lists.
-use Rattle.std.proofs.Common.{inl, inr, ◌⊎◌, ◌≡◌, ℕ, Bool, true, false, cond, ◌&&◌, ◌||◌, List, [], ◌∷◌, ◌++◌, map, refl, sym, ap, ◌∙◌, subst, arith}
-use Rattle.std.specs.Prelude.{nat_eq, nat_lt}
-use Rattle.std.proofs.lemmas.Bool.Decides.{nat_tests}
-use Rattle.std.proofs.lemmas.Bool.{false≢true, true≢false, eqb-true, eq-eqb, ltb-true, lt-ltb}
+use Rattle.std.proofs.Common.{inl, inr, ◌⊎◌, ◌≡◌, Bool, true, false, cond, ◌||◌, List, [], ◌∷◌, ◌++◌, map, refl, sym, ap, ◌∙◌}
+use Rattle.std.proofs.lemmas.Bool.{false≢true, true≢false}
 use Rattle.doc_table.specs.Orders.{has, put, once}
 use Rattle.doc_table.specs.Ascending.{In, AllAfter, Ascends, IsOrder, OneAscending, StandsOnce}
 
@@ -39,16 +37,18 @@ after-all less x (y ∷ ys) f = (f y (inl refl), after-all less x ys (λ z h. f 
 -- one ascending list before another
 pub ascends-append : {A : Type 0} (less : A → A → Bool) (xs ys : List A) → Ascends less xs → Ascends less ys → ((x y : A) → In x xs → In y ys → less x y ≡ true) → Ascends less (xs ++ ys)
 ascends-append less [] ys a b f = b
-ascends-append less (x ∷ xs) ys a b f =
-    (after-all less x (xs ++ ys) (λ y h. elim (in-parts y xs ys h) [ inl p ↦ after-at less x y xs a.0 p | inr q ↦ f x y (inl refl) q ]),
-    ascends-append less xs ys a.1 b (λ z y h k. f z y (inr h) k))
+ascends-append less (x ∷ xs) ys a b f = (
+  after-all less x (xs ++ ys) (λ y h. elim (in-parts y xs ys h) [ inl p ↦ after-at less x y xs a.0 p | inr q ↦ f x y (inl refl) q ]),
+  ascends-append less xs ys a.1 b (λ z y h k. f z y (inr h) k),
+)
 
 -- where the order is kept
 pub ascends-map : {A B : Type 0} (less : A → A → Bool) (more : B → B → Bool) (f : A → B) (xs : List A) → ((x y : A) → In x xs → In y xs → less x y ≡ true → more (f x) (f y) ≡ true) → Ascends less xs → Ascends more (map f xs)
 ascends-map less more f [] g a = tt
-ascends-map less more f (x ∷ xs) g a =
-    (after-all more (f x) (map f xs) (λ z h. let r = in-unmap f z xs h in ap (more (f x)) r.2 ∙ g x r.0 (inl refl) (inr r.1) (after-at less x r.0 xs a.0 r.1)),
-    ascends-map less more f xs (λ y z h k. g y z (inr h) (inr k)) a.1)
+ascends-map less more f (x ∷ xs) g a = (
+  after-all more (f x) (map f xs) (λ z h. let r = in-unmap f z xs h in ap (more (f x)) r.2 ∙ g x r.0 (inl refl) (inr r.1) (after-at less x r.0 xs a.0 r.1)),
+  ascends-map less more f xs (λ y z h k. g y z (inr h) (inr k)) a.1,
+)
 
 -- ---- determined by the elements
 
@@ -60,9 +60,9 @@ one_ascending {A} less turn (x ∷ xs) (y ∷ ys) a b f g =
     let same : x ≡ y = elim (f x (inl refl)) [
       | inl e ↦ e
       | inr h ↦ (elim (g y (inl refl)) [
-          | inl e ↦ sym e
-          | inr k ↦ absurd (false≢true (sym (turn x y (after-at less x y xs a.0 k)) ∙ after-at less y x ys b.0 h))
-        ])
+        | inl e ↦ sym e
+        | inr k ↦ absurd (false≢true (sym (turn x y (after-at less x y xs a.0 k)) ∙ after-at less y x ys b.0 h))
+      ])
     ] in
     ap (λ z. z ∷ xs) same ∙ ap (λ zs. y ∷ zs) (one_ascending less turn xs ys a.1 b.1
     (λ z h. elim (f z (inr h)) [ inl e ↦ absurd (self x (ap (less x) (same ∙ sym e) ∙ after-at less x z xs a.0 h)) | inr k ↦ k ])

@@ -1,22 +1,20 @@
 -- What is asked of text numbers has the same answer over the texts.
-use Rattle.std.proofs.Common.{◌≡◌, ◌+◌, ℕ, zero, suc, Bool, true, false, not, ◌&&◌, ◌||◌, List, [], ◌∷◌, length, map, Option, Some, None, refl, sym, ap, ◌∙◌}
+use Rattle.std.proofs.Common.{◌≡◌, ◌+◌, ℕ, zero, suc, true, not, ◌&&◌, List, [], ◌∷◌, length, map, Option, Some, None, refl, sym, ap, ◌∙◌}
 use Rattle.std.proofs.lemmas.Bool.{eq-eqb, eqb-true, ltb-true, and_parts}
 use Rattle.std.proofs.lemmas.List.Folds.{list_all-append}
-use Rattle.std.specs.Prelude.{slice_get, slice_index_or}
+use Rattle.std.specs.Prelude.{slice_get}
 use Rattle.std.specs.List.{list_all}
-use Rattle.xq_base.specs.declared.axis.Axis.{Axis}
 use Rattle.xq_base.specs.declared.item.TextId.{TextId}
 use Rattle.xq_base.specs.Pool.{NoRepeats}
 use Rattle.xq_base.specs.Texts.{Text, text_eq, is_empty_text}
-use Rattle.doc_table.specs.Tree.{Label, OfDocument, OfElement, OfAttribute, OfText, OfComment, OfInstruction, Tree, Forest, Branch, no_more, one_more, root_of, children_of, attributes_of, name_of, pair_with, label_with, tree_with, forest_with, text_in, with_texts}
-use Rattle.doc_table.specs.Paths.{Path, nth_tree, nth_pair, tree_then, subtree, label_of_pair, label_in, label_at}
-use Rattle.doc_table.specs.Enc.{line_of, row_attributes, enc_at, encs_at}
-use Rattle.doc_table.specs.Axes.{Test, id_eq, on_axis, selects_label, steps_to}
+use Rattle.doc_table.specs.Tree.{Label, OfDocument, OfElement, OfAttribute, OfText, OfComment, OfInstruction, Tree, Forest, Branch, no_more, one_more, root_of, children_of, attributes_of, name_of, pair_with, label_with, tree_with, forest_with, text_in}
+use Rattle.doc_table.specs.Paths.{nth_tree, nth_pair, tree_then, subtree, label_of_pair, label_in, label_at}
+use Rattle.doc_table.specs.Enc.{line_of, enc_at, encs_at}
+use Rattle.doc_table.specs.Axes.{id_eq, on_axis, selects_label}
 use Rattle.doc_table.specs.Sound.{names_differ, sound_label, has_children, may_be_child, is_empty_forest, begins_with_text, is_sound, are_sound}
 use Rattle.doc_table.specs.Spine.{is_empty_id, is_named, is_text}
-use Rattle.doc_table.specs.Given.{is_given, option_given, pair_given, line_given, tree_given}
+use Rattle.doc_table.specs.Given.{is_given, option_given, pair_given, line_given}
 use Rattle.doc_table.specs.Steps.{option_with, test_with}
-use Rattle.doc_table.specs.TestTexts.{test_given}
 use Rattle.doc_table.specs.OtherTexts.{AlikeByText, SoundByText, StepsByText}
 use Rattle.doc_table.proofs.GrownPools.{LabelGiven, label_parts}
 use Rattle.doc_table.proofs.OtherTexts.{stands_alike, label_at-with}

@@ -1,8 +1,6 @@
 -- Other texts leave a tree the form of a document.
-use Rattle.std.proofs.Common.{◌≡◌, ◌+◌, not, ◌&&◌, ◌||◌, if◌then◌else◌, refl, ap}
-use Rattle.std.specs.Prelude.{nat_eq}
-use Rattle.doc_table.specs.Tree.{DocumentNode, ElementNode, TextNode, Tree, Forest, Branch, no_more, one_more, root_of, kind_of, tree_with, forest_with}
-use Rattle.doc_table.specs.Axes.{kind_eq}
+use Rattle.std.proofs.Common.{◌≡◌, refl}
+use Rattle.doc_table.specs.Tree.{Tree, Forest, Branch, no_more, one_more, root_of, kind_of, tree_with, forest_with}
 use Rattle.doc_table.specs.DocumentTrees.{elements_among, text_among, has_document_form}
 use Rattle.doc_table.proofs.OtherTexts.{kind-with}
 

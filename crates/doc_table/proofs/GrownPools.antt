@@ -1,5 +1,5 @@
 -- A pool that grows keeps the texts of the trees whose numbers it gave.
-use Rattle.std.proofs.Common.{◌≡◌, ◌≤◌, ◌+◌, ℕ, zero, suc, true, ◌&&◌, List, [], ◌∷◌, length, map, take, Option, Some, refl, sym, ap, ◌∙◌, arith}
+use Rattle.std.proofs.Common.{◌≡◌, ◌+◌, ℕ, zero, suc, true, ◌&&◌, List, [], ◌∷◌, length, map, take, Some, refl, sym, ap, ◌∙◌, arith}
 use Rattle.std.proofs.lemmas.Bool.{ltb-true, and_parts}
 use Rattle.std.proofs.lemmas.List.{get_or-take, length-take}
 use Rattle.std.proofs.lemmas.List.Folds.{list_all-append}
@@ -10,9 +10,9 @@ use Rattle.xq_base.specs.declared.item.Item.{Item as Held}
 use Rattle.xq_base.specs.declared.item.Item.TheVariants as i
 use Rattle.xq_base.specs.declared.item.TextId.{TextId}
 use Rattle.xq_base.specs.Texts.{Text}
-use Rattle.doc_table.specs.Tree.{Label, OfDocument, OfElement, OfAttribute, OfText, OfComment, OfInstruction, Tree, Forest, Branch, no_more, one_more, pair_with, label_with, tree_with, forest_with, text_in, with_texts}
+use Rattle.doc_table.specs.Tree.{Label, OfDocument, OfElement, OfAttribute, OfText, OfComment, OfInstruction, Tree, Forest, Branch, no_more, one_more, pair_with, label_with, tree_with, forest_with, text_in}
 use Rattle.doc_table.specs.Enc.{line_of, row_name, row_value, row_attributes, enc_at, encs_at}
-use Rattle.doc_table.specs.Given.{is_given, option_given, pair_given, line_given, tree_given}
+use Rattle.doc_table.specs.Given.{is_given, option_given, pair_given, line_given}
 use Rattle.doc_table.specs.Places.{node_at}
 use Rattle.doc_table.specs.Identity.{id_of_key, place_of}
 use Rattle.doc_table.specs.Items.{TextItem, UntypedItem, NodeItem, item_of}

@@ -1,11 +1,9 @@
 -- Laws of nodes, of their places and of references to them.
-use Rattle.std.proofs.Common.{◌≡◌, ℕ, Bool, true, false, ◌&&◌, ◌||◌, refl, sym, ap, ◌∙◌, subst}
+use Rattle.std.proofs.Common.{◌≡◌, Bool, true, false, refl, sym, ap, ◌∙◌}
 use Rattle.std.specs.Prelude.{nat_eq}
 use Rattle.std.proofs.lemmas.Bool.{false≢true, true≢false, eqb-true, and_parts}
-use Rattle.xq_base.specs.declared.item.FragKey.{FragKey}
 use Rattle.xq_base.specs.declared.item.NodeRef.{NodeRef}
-use Rattle.doc_table.specs.Tree.{Tree}
-use Rattle.doc_table.specs.Places.{Place, place_eq, names_node, node_at}
+use Rattle.doc_table.specs.Places.{Place, place_eq}
 use Rattle.doc_table.specs.Identity.{tree_id_eq, Node, node_eq, node_less, node_of, id_of_key, place_of, ref_eq, ref_less}
 use Rattle.doc_table.specs.NodeLaws.{DocumentOrder, ReferenceOrder, OneReference}
 use Rattle.doc_table.proofs.Orders.{same-key, references_in_order}

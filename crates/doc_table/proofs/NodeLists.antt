@@ -1,14 +1,12 @@
 -- The list of a tree's nodes: it ascends in document order and has exactly the nodes of the tree.
-use Rattle.std.proofs.Common.{inl, inr, ◌⊎◌, ◌≡◌, ◌≤◌, ℕ, zero, suc, ◌+◌, Bool, true, false, ◌&&◌, ◌||◌, List, [], ◌∷◌, ◌++◌, map, Option, Some, None, refl, sym, ap, ◌∙◌, subst, arith}
-use Rattle.std.specs.Prelude.{nat_eq, nat_lt}
-use Rattle.std.proofs.lemmas.Bool.Decides.{nat_tests}
-use Rattle.std.proofs.lemmas.Bool.{false≢true, eq-eqb, lt-ltb, le-ltb, ne_eqb}
-use Rattle.doc_table.specs.Tree.{Label, OfElement, OfAttribute, Tree, Forest, Branch, no_more, one_more, root_of, children_of, attributes_of}
-use Rattle.doc_table.specs.Paths.{Path, is_less, is_same, path_less, nth_tree, nth_pair, tree_then, subtree, label_of_pair, label_in, label_at, is_some_label, has_node}
+use Rattle.std.proofs.Common.{inl, inr, ◌≡◌, ◌≤◌, ℕ, zero, suc, ◌+◌, true, ◌&&◌, ◌||◌, List, [], ◌∷◌, ◌++◌, map, Option, Some, None, refl, sym, ap, ◌∙◌, subst, arith}
+use Rattle.std.specs.Prelude.{nat_lt}
+use Rattle.std.proofs.lemmas.Bool.{false≢true, eq-eqb, lt-ltb, le-ltb}
+use Rattle.doc_table.specs.Tree.{Tree, Forest, Branch, no_more, one_more, root_of, attributes_of}
+use Rattle.doc_table.specs.Paths.{Path, is_less, is_same, path_less, nth_tree, nth_pair, tree_then, subtree, label_of_pair, label_in, is_some_label, has_node}
 use Rattle.doc_table.specs.Nodes.{root_path, under, attribute_paths, node_paths, child_paths}
-use Rattle.doc_table.specs.Ascending.{In, AllAfter, Ascends}
+use Rattle.doc_table.specs.Ascending.{In, Ascends}
 use Rattle.doc_table.specs.NodeLaws.{ListsNodes}
-use Rattle.doc_table.proofs.Marks.{is_prefix-self, is_less-self}
 use Rattle.doc_table.proofs.Ascending.{in-left, in-right, in-parts, in-map, in-unmap, after-all, ascends-append, ascends-map}
 
 -- ---- the order of paths behind one step more
@@ -45,9 +43,10 @@ module _ {T : Type 0} where
 
   attributes-ascend : (k : ℕ) (as' : List (T × T)) → Ascends path_less (attribute_paths [] k as')
   attributes-ascend k [] = tt
-  attributes-ascend k (a ∷ as') =
-      (after-all path_less (record { steps = []; attr = k }) (attribute_paths [] (k + 1) as') (λ q h. let z = in-attributes [] (k + 1) as' q h in later k q z.0 z.1),
-      attributes-ascend (k + 1) as')
+  attributes-ascend k (a ∷ as') = (
+    after-all path_less (record { steps = []; attr = k }) (attribute_paths [] (k + 1) as') (λ q h. let z = in-attributes [] (k + 1) as' q h in later k q z.0 z.1),
+    attributes-ascend (k + 1) as',
+  )
     where
       later : (m : ℕ) (q : Path) → q.steps ≡ [] → m + 1 ≤ q.attr → path_less (record { steps = []; attr = m }) q ≡ true
       later m q e l = rw (e, lt-ltb m q.attr (omega (arith, l))) refl
@@ -63,13 +62,14 @@ module _ {T : Type 0} where
 
   mutual
     nodes-ascend : (t : Tree T) → Ascends path_less (node_paths t)
-    nodes-ascend (Branch l f) =
-        (after-all path_less root_path (attribute_paths [] 1 (attributes_of l) ++ child_paths 1 f) (λ q h. elim (in-parts q (attribute_paths [] 1 (attributes_of l)) (child_paths 1 f) h) [
-          | inl a ↦ (let z = in-attributes [] 1 (attributes_of l) q a in own q z.0 z.1)
-          | inr b ↦ before-steps 0 1 q (begins 1 f q b)
-        ]),
-        ascends-append path_less (attribute_paths [] 1 (attributes_of l)) (child_paths 1 f) (attributes-ascend 1 (attributes_of l)) (children-ascend 1 f)
-        (λ p q h k. at p q (in-attributes [] 1 (attributes_of l) p h).0 (begins 1 f q k)))
+    nodes-ascend (Branch l f) = (
+      after-all path_less root_path (attribute_paths [] 1 (attributes_of l) ++ child_paths 1 f) (λ q h. elim (in-parts q (attribute_paths [] 1 (attributes_of l)) (child_paths 1 f) h) [
+        | inl a ↦ (let z = in-attributes [] 1 (attributes_of l) q a in own q z.0 z.1)
+        | inr b ↦ before-steps 0 1 q (begins 1 f q b)
+      ]),
+      ascends-append path_less (attribute_paths [] 1 (attributes_of l)) (child_paths 1 f) (attributes-ascend 1 (attributes_of l)) (children-ascend 1 f)
+          (λ p q h k. at p q (in-attributes [] 1 (attributes_of l) p h).0 (begins 1 f q k)),
+    )
       where
         own : (q : Path) → q.steps ≡ [] → 1 ≤ q.attr → path_less root_path q ≡ true
         own q e m = rw (e, lt-ltb 0 q.attr (omega (arith, m))) refl
@@ -113,18 +113,18 @@ module _ {T : Type 0} where
     are-nodes (Branch l f) p h = elim h [
       | inl e ↦ ap (has_node (Branch l f)) e
       | inr r ↦ (elim (in-parts p (attribute_paths [] 1 (attributes_of l)) (child_paths 1 f) r) [
-          | inl a ↦
-              (let steps = (in-attributes [] 1 (attributes_of l) p a).0 in
-              let z = pair-there [] (attributes_of l) 1 0 p a in
-              ap (λ s. has_node (Branch l f) (record { steps = s; attr = p.attr })) steps ∙ attr-there p.attr z.0 (Branch l f) (omega (arith, z.1)) z.2)
-          | inr b ↦
-              (let c = child-nodes 1 f p b in
-              let number : 1 + c.number ≡ suc c.number = omega arith in
-              ap (has_node (Branch l f)) c.is
-              ∙ ap (λ n. is_some_label (label_in c.path.attr (tree_then (nth_tree f n) (subtree c.path.steps)))) number
-              ∙ ap (λ o. is_some_label (label_in c.path.attr (tree_then o (subtree c.path.steps)))) c.there
-              ∙ c.node)
-        ])
+        | inl a ↦
+            (let steps = (in-attributes [] 1 (attributes_of l) p a).0 in
+            let z = pair-there [] (attributes_of l) 1 0 p a in
+            ap (λ s. has_node (Branch l f) (record { steps = s; attr = p.attr })) steps ∙ attr-there p.attr z.0 (Branch l f) (omega (arith, z.1)) z.2)
+        | inr b ↦
+            (let c = child-nodes 1 f p b in
+            let number : 1 + c.number ≡ suc c.number = omega arith in
+            ap (has_node (Branch l f)) c.is
+            ∙ ap (λ n. is_some_label (label_in c.path.attr (tree_then (nth_tree f n) (subtree c.path.steps)))) number
+            ∙ ap (λ o. is_some_label (label_in c.path.attr (tree_then o (subtree c.path.steps)))) c.there
+            ∙ c.node)
+      ])
     ]
 
     child-nodes : (i : ℕ) (f : Forest T) (p : Path) → In p (child_paths i f) → Child i f p

@@ -1,16 +1,15 @@
 -- The places of a tree's nodes, and the nodes at them.
-use Rattle.std.proofs.Common.{inl, inr, ◌⊎◌, ◌≡◌, ◌≤◌, ◌<◌, ℕ, zero, suc, ◌+◌, Bool, true, false, cond, ◌&&◌, ◌||◌, List, [], ◌∷◌, ◌++◌, length, map, refl, sym, ap, ◌∙◌, subst, arith}
+use Rattle.std.proofs.Common.{inl, inr, ◌≡◌, ◌≤◌, ◌<◌, ℕ, zero, suc, ◌+◌, Bool, true, false, cond, ◌&&◌, List, [], ◌∷◌, ◌++◌, length, map, refl, sym, ap, ◌∙◌, subst, arith}
 use Rattle.std.specs.Prelude.{nat_eq, nat_lt, nat_le}
 use Rattle.std.proofs.lemmas.Bool.{false≢true, true≢false, eq-eqb, eqb-true, lt-ltb, ltb-true, le-leb, leb-true, le-ltb, and_parts, and_from}
 use Rattle.doc_table.specs.Tree.{Tree}
-use Rattle.doc_table.specs.Paths.{Path, path_less, path_eq, has_node}
+use Rattle.doc_table.specs.Paths.{Path, path_less, path_eq}
 use Rattle.doc_table.specs.Enc.{Line, enc, line_in}
 use Rattle.doc_table.specs.Places.{Place, place_less, place_eq, is_lone, names_node, node_at}
 use Rattle.doc_table.specs.NodeRows.{attribute_places, places_from, places_of}
 use Rattle.doc_table.specs.Nodes.{node_paths}
-use Rattle.doc_table.specs.Sound.{is_sound}
 use Rattle.doc_table.specs.Ascending.{In, Ascends}
-use Rattle.doc_table.specs.NodeLaws.{ListsPlaces, OnePlace, PlacesOneToOne}
+use Rattle.doc_table.specs.NodeLaws.{ListsPlaces, PlacesOneToOne}
 use Rattle.doc_table.proofs.Ascending.{in-left, in-right, in-parts, in-map, in-unmap, after-all, ascends-append}
 use Rattle.doc_table.proofs.StrictOrders.{paths_order, places_order}
 use Rattle.doc_table.proofs.Orders.{places-in-order}
@@ -43,9 +42,10 @@ module _ {T : Type 0} where
 
   attributes-ascend : (v k : ℕ) (as' : List (T × T)) → Ascends place_less (attribute_places v k as')
   attributes-ascend v k [] = tt
-  attributes-ascend v k (a ∷ as') =
-      (after-all place_less (record { pre = v; attr = k }) (attribute_places v (k + 1) as') (λ q h. let z = in-attributes v (k + 1) as' q h in less-attr (record { pre = v; attr = k }) q (sym z.0) (omega (arith, z.1))),
-      attributes-ascend v (k + 1) as')
+  attributes-ascend v k (a ∷ as') = (
+    after-all place_less (record { pre = v; attr = k }) (attribute_places v (k + 1) as') (λ q h. let z = in-attributes v (k + 1) as' q h in less-attr (record { pre = v; attr = k }) q (sym z.0) (omega (arith, z.1))),
+    attributes-ascend v (k + 1) as',
+  )
 
   -- ---- the rows from a number on
 
@@ -60,9 +60,9 @@ module _ {T : Type 0} where
   in-places v (line ∷ lines) p h = elim h [
     | inl e ↦ record { row = 0; is = omega (arith, ap (λ q. q.pre) e); within = omega arith; attr = omega (arith, ap (λ q. q.attr) e) }
     | inr r ↦ (elim (in-parts p (attribute_places v 1 line.attributes) (places_from (v + 1) lines) r) [
-        | inl a ↦ (let z = in-attributes v 1 line.attributes p a in record { row = 0; is = omega (arith, z.0); within = omega arith; attr = omega (arith, z.2) })
-        | inr b ↦ (let s = in-places (v + 1) lines p b in record { row = suc s.row; is = omega (arith, s.is); within = omega (arith, s.within); attr = s.attr })
-      ])
+      | inl a ↦ (let z = in-attributes v 1 line.attributes p a in record { row = 0; is = omega (arith, z.0); within = omega arith; attr = omega (arith, z.2) })
+      | inr b ↦ (let s = in-places (v + 1) lines p b in record { row = suc s.row; is = omega (arith, s.is); within = omega (arith, s.within); attr = s.attr })
+    ])
   ]
 
   to-places : (v : ℕ) (lines : List (Line T)) (n k : ℕ) → n < length lines → k ≤ length (line_in lines n).attributes → In (record { pre = v + n; attr = k }) (places_from v lines)
@@ -81,13 +81,14 @@ module _ {T : Type 0} where
 
   places-ascend : (v : ℕ) (lines : List (Line T)) → Ascends place_less (places_from v lines)
   places-ascend v [] = tt
-  places-ascend v (line ∷ lines) =
-      (after-all place_less (record { pre = v; attr = 0 }) (attribute_places v 1 line.attributes ++ places_from (v + 1) lines) (λ q h. elim (in-parts q (attribute_places v 1 line.attributes) (places_from (v + 1) lines) h) [
-        | inl a ↦ (let z = in-attributes v 1 line.attributes q a in less-attr (record { pre = v; attr = 0 }) q (sym z.0) (omega (arith, z.1)))
-        | inr b ↦ (let s = in-places (v + 1) lines q b in less-row (record { pre = v; attr = 0 }) q (omega (arith, s.is)))
-      ]),
-      ascends-append place_less (attribute_places v 1 line.attributes) (places_from (v + 1) lines) (attributes-ascend v 1 line.attributes) (places-ascend (v + 1) lines)
-      (λ p q h k. let z = in-attributes v 1 line.attributes p h in let s = in-places (v + 1) lines q k in less-row p q (omega (arith, z.0, s.is))))
+  places-ascend v (line ∷ lines) = (
+    after-all place_less (record { pre = v; attr = 0 }) (attribute_places v 1 line.attributes ++ places_from (v + 1) lines) (λ q h. elim (in-parts q (attribute_places v 1 line.attributes) (places_from (v + 1) lines) h) [
+      | inl a ↦ (let z = in-attributes v 1 line.attributes q a in less-attr (record { pre = v; attr = 0 }) q (sym z.0) (omega (arith, z.1)))
+      | inr b ↦ (let s = in-places (v + 1) lines q b in less-row (record { pre = v; attr = 0 }) q (omega (arith, s.is)))
+    ]),
+    ascends-append place_less (attribute_places v 1 line.attributes) (places_from (v + 1) lines) (attributes-ascend v 1 line.attributes) (places-ascend (v + 1) lines)
+        (λ p q h k. let z = in-attributes v 1 line.attributes p h in let s = in-places (v + 1) lines q k in less-row p q (omega (arith, z.0, s.is))),
+  )
 
   -- ---- the places of a tree
 

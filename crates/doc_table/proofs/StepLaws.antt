@@ -1,27 +1,24 @@
 -- What a step finds, by references.
-use Rattle.std.proofs.Common.{inl, inr, ◌⊎◌, ◌≡◌, ℕ, Bool, true, false, cond, ◌&&◌, List, [], ◌∷◌, ◌++◌, length, map, Option, Some, refl, sym, ap, ◌∙◌, subst}
-use Rattle.std.specs.Prelude.{nat_eq, flat_map, slice_get}
+use Rattle.std.proofs.Common.{inl, inr, ◌≡◌, Bool, true, false, cond, List, [], ◌∷◌, length, map, refl, sym, ap, ◌∙◌, subst}
+use Rattle.std.specs.Prelude.{nat_eq, flat_map}
 use Rattle.std.specs.List.{filter}
 use Rattle.std.proofs.lemmas.Bool.{false≢true, eqb-true, and_parts}
 use Rattle.xq_base.specs.declared.axis.Axis.{Axis}
 use Rattle.xq_base.specs.declared.item.FragKey.{FragKey}
 use Rattle.xq_base.specs.declared.item.NodeRef.{NodeRef}
-use Rattle.xq_base.specs.declared.item.TextId.{TextId}
 use Rattle.xq_base.specs.Texts.{Text, text_eq, is_empty_text}
 use Rattle.doc_table.specs.Tree.{Tree, text_in, with_texts}
 use Rattle.doc_table.specs.Paths.{Path, is_same, path_eq, label_at}
 use Rattle.doc_table.specs.Given.{tree_given}
 use Rattle.doc_table.specs.Axes.{Test, id_eq, selects_label, steps_to}
-use Rattle.doc_table.specs.Places.{Place, names_node, node_at}
-use Rattle.doc_table.specs.Identity.{TreeId, tree_id_eq, tree_id_less, Node, node_eq, node_less, node_of, id_of_key, place_of, ref_less}
-use Rattle.doc_table.specs.Orders.{has, once}
+use Rattle.doc_table.specs.Places.{names_node, node_at}
+use Rattle.doc_table.specs.Identity.{tree_id_eq, tree_id_less, Node, node_eq, node_less, node_of, id_of_key, place_of, ref_less}
 use Rattle.doc_table.specs.Nodes.{node_paths, node_in_tree}
 use Rattle.doc_table.specs.Sound.{is_sound}
-use Rattle.doc_table.specs.Ascending.{In, Ascends, StandsOnce}
+use Rattle.doc_table.specs.Ascending.{In}
 use Rattle.doc_table.specs.Steps.{test_with, found, in_document_order}
-use Rattle.doc_table.specs.TestTexts.{test_given}
 use Rattle.doc_table.specs.NodeLaws.{TestsIgnoreIdentity, StepsIgnoreIdentity, with_id}
-use Rattle.doc_table.specs.StepLaws.{OrderedOnce, OneTreeEach, SameSets, Reaches, AreReached, ReachedTogether, StepByReferences, AreKept, StepByNumbers}
+use Rattle.doc_table.specs.StepLaws.{OrderedOnce, OneTreeEach, SameSets, Reaches, AreReached, ReachedTogether, StepByReferences, StepByNumbers}
 use Rattle.doc_table.proofs.Orders.{same-key, references_in_order}
 use Rattle.doc_table.proofs.StrictOrders.{nodes_order, same-ids, same-lists}
 use Rattle.doc_table.proofs.Ascending.{in-left, in-right, in-parts, in-map, in-unmap, has-in, one_ascending, ascends-append, ascends-map, stands_once}

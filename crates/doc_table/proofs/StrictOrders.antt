@@ -3,9 +3,6 @@ use Rattle.std.proofs.Common.{◌≡◌, ℕ, Bool, true, false, ◌&&◌, ◌||
 use Rattle.std.specs.Prelude.{nat_eq, nat_lt}
 use Rattle.std.proofs.lemmas.Bool.Decides.{nat_tests}
 use Rattle.std.proofs.lemmas.Bool.{false≢true, true≢false, eqb-true, eq-eqb, and_parts}
-use Rattle.xq_base.specs.declared.item.FragKey.{FragKey}
-use Rattle.xq_base.specs.declared.item.FragKey.TheVariants as f
-use Rattle.xq_base.specs.declared.item.NodeRef.{NodeRef}
 use Rattle.doc_table.specs.Paths.{Path, is_prefix, is_less, is_same, path_eq, path_less}
 use Rattle.doc_table.specs.Places.{Place, place_eq, place_less}
 use Rattle.doc_table.specs.Identity.{TreeId, DocTree, BuiltTree, tree_id_eq, tree_id_less, Node, node_eq, node_less, id_of_key, place_of, ref_eq, ref_less}

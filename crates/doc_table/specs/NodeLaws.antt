@@ -1,18 +1,18 @@
 -- Laws of nodes, of their places and of references to them.
-use Rattle.std.specs.Prelude.{ℕ, ◌≡◌, ◌↔◌, Bool, true, List, map, flat_map}
+use Rattle.std.specs.Prelude.{◌≡◌, ◌↔◌, Bool, true, map}
 use Rattle.xq_base.specs.declared.axis.Axis.{Axis}
 use Rattle.xq_base.specs.declared.item.FragKey.{FragKey}
 use Rattle.xq_base.specs.declared.item.NodeRef.{NodeRef}
-use Rattle.xq_base.specs.Texts.{Text, text_eq, is_empty_text}
+use Rattle.xq_base.specs.Texts.{Text}
 use Rattle.doc_table.specs.Tree.{Tree}
 use Rattle.doc_table.specs.Paths.{Path, path_less, has_node}
-use Rattle.doc_table.specs.Axes.{Test, selects_label, steps_to}
+use Rattle.doc_table.specs.Axes.{Test, selects_label}
 use Rattle.doc_table.specs.Places.{Place, place_less, names_node, node_at}
 use Rattle.doc_table.specs.NodeRows.{places_of}
-use Rattle.doc_table.specs.Identity.{TreeId, tree_id_eq, tree_id_less, Node, node_eq, node_less, node_of, id_of_key, place_of, ref_eq, ref_less}
+use Rattle.doc_table.specs.Identity.{TreeId, Node, node_eq, node_less, node_of, place_of, ref_eq, ref_less}
 use Rattle.doc_table.specs.Sound.{is_sound}
 use Rattle.doc_table.specs.Nodes.{node_paths, label_of_node}
-use Rattle.doc_table.specs.Ascending.{In, Ascends, IsOrder, StandsOnce}
+use Rattle.doc_table.specs.Ascending.{In, Ascends, IsOrder}
 use Rattle.doc_table.specs.Steps.{found}
 
 -- document order is a strict order of nodes, and its equality is the one of identity and path

@@ -1,5 +1,5 @@
 -- What other texts in place of a tree's leave as it is, and what a pool that grew keeps.
-use Rattle.std.specs.Prelude.{ℕ, ◌≡◌, ◌≤◌, Bool, true, List, [], length, map, take, slice_get, Option, Some}
+use Rattle.std.specs.Prelude.{ℕ, ◌≡◌, ◌≤◌, Bool, true, List, [], length, map, take, slice_get, Some}
 use Rattle.xq_base.specs.declared.axis.Axis.{Axis}
 use Rattle.xq_base.specs.declared.item.FragKey.{FragKey}
 use Rattle.xq_base.specs.declared.item.Item.{Item as Held}
@@ -7,7 +7,7 @@ use Rattle.xq_base.specs.declared.item.Item.TheVariants as i
 use Rattle.xq_base.specs.declared.item.TextId.{TextId}
 use Rattle.xq_base.specs.Pool.{NoRepeats}
 use Rattle.xq_base.specs.Texts.{Text, text_eq, is_empty_text}
-use Rattle.doc_table.specs.Tree.{Label, Tree, pair_with, label_with, tree_with, text_in, with_texts}
+use Rattle.doc_table.specs.Tree.{Tree, pair_with, label_with, tree_with, text_in, with_texts}
 use Rattle.doc_table.specs.Paths.{Path, paths, label_at}
 use Rattle.doc_table.specs.Enc.{Line, enc}
 use Rattle.doc_table.specs.Axes.{Test, id_eq, steps_to}

@@ -1,5 +1,5 @@
 -- What a step finds, by references (XQuery 1.0, section 3.2.1).
-use Rattle.std.specs.Prelude.{ℕ, ◌≡◌, Bool, true, List, [], ◌++◌, length, map, flat_map, slice_get, Some}
+use Rattle.std.specs.Prelude.{◌≡◌, Bool, true, List, [], ◌++◌, length, map, flat_map, slice_get, Some}
 use Rattle.xq_base.specs.declared.axis.Axis.{Axis}
 use Rattle.xq_base.specs.declared.item.FragKey.{FragKey}
 use Rattle.xq_base.specs.declared.item.NodeRef.{NodeRef}
