@@ -1,10 +1,10 @@
 -- The tree that the grammar gives a document has the form of a document: one element and no text stand among the children
 -- of the document node.
-use Rattle.std.proofs.Common.{inl, inr, ◌≡◌, ◌+◌, true, false, not, ◌&&◌, ◌||◌, if◌then◌else◌, List, [], ◌∷◌, ◌++◌, refl, sym, ap, ◌∙◌, subst, arith}
-use Rattle.std.specs.Prelude.{ℕ, nat_eq}
+use Rattle.std.proofs.Common.{inl, inr, ◌≡◌, ◌+◌, true, false, List, [], ◌∷◌, ◌++◌, refl, sym, ap, ◌∙◌, subst, arith}
+use Rattle.std.specs.Prelude.{ℕ}
 use Rattle.std.proofs.lemmas.Bool.{and_from}
 use Rattle.xq_base.specs.declared.item.TextId.{TextId}
-use Rattle.doc_table.specs.Tree.{ElementNode, TextNode, Tree, Forest, Branch, OfDocument, OfElement, OfAttribute, OfText, OfComment, OfInstruction, no_more, one_more, root_of, kind_of, forest_of, text_in, with_texts}
+use Rattle.doc_table.specs.Tree.{ElementNode, TextNode, Tree, Branch, OfDocument, OfElement, OfAttribute, OfText, OfComment, OfInstruction, root_of, kind_of, forest_of, text_in, with_texts}
 use Rattle.doc_table.specs.Axes.{id_eq, kind_eq}
 use Rattle.doc_table.specs.Spine.{is_empty_id}
 use Rattle.doc_table.specs.Sound.{is_sound}
