@@ -8,6 +8,7 @@ mod depth;
 mod document;
 mod fault;
 mod laws;
+mod limits;
 mod lines;
 mod markup;
 mod names;
@@ -21,5 +22,6 @@ mod texts;
 mod values;
 
 pub use laws::one_tree;
+pub use limits::{DOCUMENT_LIMIT, LEVEL_LIMIT};
 pub use refusal::ShredFault;
 pub use shredder::shred;

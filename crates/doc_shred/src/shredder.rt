@@ -7,6 +7,7 @@ ghost use Rattle.doc_table.specs.Spine.{is_empty_id};
 ghost use Rattle.doc_table.specs.DocumentTrees.{is_document_tree};
 ghost use Rattle.doc_shred.specs.declared.refusal.ShredFault.TheVariants.{NotWellFormed, Unsupported, TooDeep};
 ghost use Rattle.doc_shred.specs.Content.{Text};
+ghost use Rattle.doc_shred.specs.Limits.{document_limit};
 ghost use Rattle.doc_shred.specs.Document.{IsDocument, IsUnsupported, IsTooDeep};
 ghost use Rattle.doc_shred.specs.Standing.{IsLater};
 
@@ -27,7 +28,7 @@ use xq_base::Pool;
 /// where the bytes are no document; else `TooDeep` where a node's level passes 65,535; and
 /// `NoMemory`. After a refusal the pool may have more texts.
 pub fn shred(alloc: Global, bytes: &[u8], pool: &mut Pool) -> Result<Fragment, ShredFault>
-    requires { length bytes.now ≤ 67_108_864 }
+    requires { length bytes.now ≤ document_limit }
 
     // Earlier numbers keep their texts.
     ensures later { IsLater pool.old pool.new }
@@ -67,12 +68,13 @@ pub fn shred(alloc: Global, bytes: &[u8], pool: &mut Pool) -> Result<Fragment, S
 #[cfg(test)]
 mod tests {
     use super::*;
+    use crate::limits::{DOCUMENT_LIMIT, LEVEL_LIMIT};
     use std::test::Fail;
     use xq_base::HashKeys;
 
     /// Whether a document is read, and else why not.
     fn outcome(alloc: Global, text: &[u8]) -> Result<u32, ShredFault> {
-        if text.len() > 67_108_864 {
+        if text.len() > DOCUMENT_LIMIT {
             return Err(ShredFault::NoMemory);
         }
         let mut pool = Pool::new(alloc, HashKeys::new(1, 2));
@@ -153,9 +155,9 @@ mod tests {
 
     #[test]
     fn the_last_level_is_read_and_the_next_is_too_deep(rt: HostRuntime) -> Result<(), Fail> {
-        let last = nested(rt.alloc(), 65_535)?;
-        assert_eq!(rt; outcome(rt.alloc(), last.as_slice()), Ok(65_536));
-        let next = nested(rt.alloc(), 65_536)?;
+        let last = nested(rt.alloc(), LEVEL_LIMIT)?;
+        assert_eq!(rt; outcome(rt.alloc(), last.as_slice()), Ok(LEVEL_LIMIT + 1));
+        let next = nested(rt.alloc(), LEVEL_LIMIT + 1)?;
         assert_eq!(rt;
             outcome(rt.alloc(), next.as_slice()),
             Err(ShredFault::TooDeep)

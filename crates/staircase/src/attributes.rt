@@ -1,5 +1,5 @@
 //! The attributes on an axis.
-ghost use Rattle.std.specs.Prelude.{◌≡◌, ◌<◌, ◌+◌, ◌-◌, ◌^◌, ◌++◌, true, length, OnOk};
+ghost use Rattle.std.specs.Prelude.{◌≡◌, ◌<◌, ◌+◌, ◌-◌, ◌++◌, true, length, OnOk};
 ghost use Rattle.xq_base.specs.declared.item.TextId.{TextId};
 ghost use Rattle.doc_table.specs.Places.{names_node};
 ghost use Rattle.doc_table.specs.Paths.{nth_pair};
@@ -7,6 +7,7 @@ ghost use Rattle.staircase.specs.Attributes.{all_hits, attribute_hit, attribute_
 ghost use Rattle.staircase.specs.Joins.{place_of, AreNodes};
 ghost use Rattle.staircase.specs.Parts.{AreRows};
 ghost use Rattle.staircase.specs.Seen.{AllSeen};
+ghost use Rattle.doc_table.specs.Limits.{size_limit};
 
 use crate::hits::Hit;
 use crate::kinds::Ctx;
@@ -74,7 +75,7 @@ fn all_attributes(
     attributes: &[(TextId, TextId)],
     hits: &mut Vec<Hit>,
 ) -> Result<(), Want>
-    requires { length attributes.now < 2 ^ 32 - 1 }
+    requires { length attributes.now < size_limit }
     ensures { OnOk result (hits.new.items ≡ hits.old.items ++ all_hits axis test ctx 1 attributes.now) }
 {
     let mut number: u32 = 0;

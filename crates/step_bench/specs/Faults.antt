@@ -1,13 +1,9 @@
--- The limit of a document, and the exit status of each fault (own rule).
+-- The exit status of each fault (own rule).
 use Rattle.std.specs.Prelude.{ℕ}
 use Rattle.doc_shred.specs.declared.refusal.ShredFault.{ShredFault}
 use Rattle.doc_shred.specs.declared.refusal.ShredFault.TheVariants as s
 use Rattle.step_bench.specs.declared.fault.Fault.{Fault}
 use Rattle.step_bench.specs.declared.fault.Fault.TheVariants as f
-
--- the most bytes of a document
-abbrev pub most_bytes : ℕ
-most_bytes = 67108864
 
 -- the exit status of a refusal: want of memory has its own
 abbrev pub refused_code : ShredFault → ℕ

@@ -4,7 +4,7 @@ ghost use Rattle.doc_table.specs.Places.{is_lone};
 ghost use Rattle.staircase.specs.Hits.{Ascending};
 ghost use Rattle.staircase.specs.Joins.{AreNodes};
 ghost use Rattle.step_bench.specs.Axes.{AreChosen, name_of};
-ghost use Rattle.step_bench.specs.Faults.{most_bytes};
+ghost use Rattle.doc_shred.specs.Limits.{document_limit};
 ghost use Rattle.step_bench.specs.Inputs.{IsTreeOf};
 ghost use Rattle.step_bench.specs.Runs.{Prints, Runs};
 
@@ -50,7 +50,7 @@ fn axes_of(alloc: Global, words: Args) -> Result<Vec<Axis>, Fault>
 /// The tree of a document's bytes. Its root is no attribute.
 #[tactic(auto, using(crate::proofs::Rooted::document_not_lone))]
 fn tree_of(alloc: Global, bytes: &[u8]) -> Result<Fragment, Fault>
-    requires { length bytes.now ≤ most_bytes }
+    requires { length bytes.now ≤ document_limit }
     ensures tree { IfOk result (λ tree. IsTreeOf bytes.now tree) }
     ensures root { IfOk result (λ tree. is_lone tree ≡ false) }
 {
