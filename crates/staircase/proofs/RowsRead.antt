@@ -14,9 +14,9 @@ use Rattle.staircase.specs.declared.seen.Seen.{Seen}
 use Rattle.staircase.specs.Made.{row_found}
 use Rattle.staircase.specs.Parts.{In, IsRising, IsSmall, AreRows}
 use Rattle.staircase.specs.Seen.{seen_of}
-use Rattle.staircase.proofs.Parting.{in-at, place-in}
-use Rattle.staircase.proofs.Some.{in-picked, picked-in}
-use Rattle.staircase.proofs.Tasking.{row-found_at}
+use Rattle.staircase.proofs.PartLaws.{in-at, place-in}
+use Rattle.staircase.proofs.SomeTests.{in-picked, picked-in}
+use Rattle.staircase.proofs.TaskLaws.{row-found_at}
 
 -- ---- a row is no deeper than its number
 

@@ -14,7 +14,7 @@ use Rattle.staircase.specs.Joins.{AreNodes}
 use Rattle.staircase.specs.Parts.{In}
 use Rattle.staircase.proofs.Elements.{in-parts}
 use Rattle.doc_table.proofs.RowNodes.{row_named}
-use Rattle.step_bench.specs.Contexts.{row_in, both, first_rows, every_second}
+use Rattle.step_bench.specs.Context.{row_in, both, first_rows, every_second}
 
 -- a row of the tree up to a number, and not its first one
 record IsRow (most : ℕ) (c : Ctx) : Type 0 where

@@ -1,7 +1,7 @@
 //! The bytes of the standard input.
 ghost use Rattle.std.specs.Prelude.{◌≡◌, IfOk, IfErr};
-ghost use Rattle.step_bench.specs.Faults.{IsLarge};
-ghost use Rattle.step_bench.specs.Inputs.{IsWhole, IsLong};
+ghost use Rattle.step_bench.specs.Fault.{IsLarge};
+ghost use Rattle.step_bench.specs.Input.{IsWhole, IsLong};
 
 use crate::fault::Fault;
 use doc_shred::DOCUMENT_LIMIT;

@@ -1,5 +1,5 @@
 use Rattle.std.proofs.Common.{arith}
-use Rattle.step_bench.proofs.Whole.{whole_taken, long_taken}
+use Rattle.step_bench.proofs.WholeInput.{whole_taken, long_taken}
 use Rattle.step_bench.proofs.input.read_all.Goals as goal
 
 pub returns-then-len-gt-DOCUMENT_LIMIT-clause-large : goal.returns-then-len-gt-DOCUMENT_LIMIT-clause-large

@@ -24,14 +24,14 @@ use Rattle.staircase.specs.Made.{row_found}
 use Rattle.staircase.specs.Parts.{In}
 use Rattle.staircase.specs.Seen.{seen_of}
 use Rattle.staircase.specs.Tasks.{Gains}
-use Rattle.staircase.proofs.Attained.{attributes-complete}
+use Rattle.staircase.proofs.AttributesComplete.{attributes-complete}
 use Rattle.staircase.proofs.RowsRead.{read-found}
 use Rattle.staircase.proofs.Elements.{in-left, in-right, in-parts, in-contains, contains-in}
-use Rattle.staircase.proofs.Gathering.{own-touched, row-of, wanted}
-use Rattle.staircase.proofs.Naming.{passes-is}
-use Rattle.staircase.proofs.Owning.{Reached, attributes-sound}
-use Rattle.staircase.proofs.Rowing.{context-row}
-use Rattle.staircase.proofs.Tallying.{not-lone}
+use Rattle.staircase.proofs.GatherLaws.{own-touched, row-of, wanted}
+use Rattle.staircase.proofs.RowTests.{passes-is}
+use Rattle.staircase.proofs.AttributesSound.{Reached, attributes-sound}
+use Rattle.staircase.proofs.RowHits.{context-row}
+use Rattle.staircase.proofs.TallyLaws.{not-lone}
 
 -- ---- rows
 

@@ -11,7 +11,7 @@ use Rattle.staircase.specs.Chains.{row_at, kept_at, Leads, leads_here, leads_mor
 use Rattle.staircase.specs.Parts.{In}
 use Rattle.staircase.specs.Tasks.{hit_in, lets}
 use Rattle.staircase.proofs.Elements.{in-left, in-right, in-parts}
-use Rattle.staircase.proofs.Linking.{leads-on}
+use Rattle.staircase.proofs.LinkLaws.{leads-on}
 
 pub option-same : (o : Option ℕ) (i : ℕ) → option_eq nat_eq o (Some i) ≡ true → o ≡ Some i
 option-same None i e = absurd (false≢true e)

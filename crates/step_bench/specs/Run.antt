@@ -8,10 +8,10 @@ use Rattle.doc_table.specs.Enc.{enc}
 use Rattle.staircase.specs.declared.kinds.Ctx.{Ctx}
 use Rattle.step_bench.specs.declared.step.Taken.{Taken}
 use Rattle.step_bench.specs.Axes.{AreChosen}
-use Rattle.step_bench.specs.Contexts.{every_second}
-use Rattle.step_bench.specs.Inputs.{IsWhole, IsTreeOf}
-use Rattle.step_bench.specs.Lines.{line_of}
-use Rattle.step_bench.specs.Steps.{IsTaken}
+use Rattle.step_bench.specs.Context.{every_second}
+use Rattle.step_bench.specs.Input.{IsWhole, IsTreeOf}
+use Rattle.step_bench.specs.Line.{line_of}
+use Rattle.step_bench.specs.Step.{IsTaken}
 
 -- the lines of the steps on these axes, one after the other
 abbrev pub AreLines : List Axis → Tree TextId → List Ctx → List ℕ → Type 0

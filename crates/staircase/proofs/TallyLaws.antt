@@ -23,13 +23,13 @@ use Rattle.staircase.specs.Joins.{IsCount, Ready, Stands, path_with, place_of, p
 use Rattle.staircase.specs.Parts.{In}
 use Rattle.staircase.specs.Seen.{seen_of}
 use Rattle.staircase.specs.Tasks.{Gains, lets}
-use Rattle.staircase.proofs.Coming.{has-below}
-use Rattle.staircase.proofs.Counting.{count-hits, count-parts, row_ctx}
+use Rattle.staircase.proofs.RowsAhead.{has-below}
+use Rattle.staircase.proofs.CountLaws.{count-hits, count-parts, row_ctx}
 use Rattle.staircase.proofs.Elements.{in-contains, contains-in}
-use Rattle.staircase.proofs.Gathering.{axis-touched, own-touched, row-of}
-use Rattle.staircase.proofs.Naming.{is-node, lone-none}
-use Rattle.staircase.proofs.Some.{has-in, in-has, place-in_some, some-place_in}
-use Rattle.staircase.proofs.Touching.{own-is, own-up}
+use Rattle.staircase.proofs.GatherLaws.{axis-touched, own-touched, row-of}
+use Rattle.staircase.proofs.RowTests.{is-node, lone-none}
+use Rattle.staircase.proofs.SomeTests.{has-in, in-has, place-in_some, some-place_in}
+use Rattle.staircase.proofs.TouchedRows.{own-is, own-up}
 
 -- ---- results
 

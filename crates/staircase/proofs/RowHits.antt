@@ -24,8 +24,8 @@ use Rattle.staircase.specs.Seen.{seen_of}
 use Rattle.staircase.specs.Tasks.{Finds, in_task, lets, hit_in}
 use Rattle.staircase.proofs.RowsRead.{rows_read, read-in, in-read, read-found, found-read}
 use Rattle.staircase.proofs.Elements.{in-left, in-right, in-parts}
-use Rattle.staircase.proofs.Looking.{looks, looks-is, before-attribute}
-use Rattle.staircase.proofs.Some.{place-in_some, below-some}
+use Rattle.staircase.proofs.LookLaws.{looks, looks-is, before-attribute}
+use Rattle.staircase.proofs.SomeTests.{place-in_some, below-some}
 
 -- ---- the tasks of a context
 

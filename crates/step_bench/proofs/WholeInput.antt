@@ -5,7 +5,7 @@ use Rattle.std.specs.Io.Take.{take_limit, take_inner, take_remaining}
 use Rattle.std.specs.declared.io.traits.Take.{Take}
 use Rattle.std.proofs.lemmas.List.{length-take, take_all}
 use Rattle.doc_shred.specs.Limits.{document_limit}
-use Rattle.step_bench.specs.Inputs.{IsWhole, IsLong}
+use Rattle.step_bench.specs.Input.{IsWhole, IsLong}
 
 module _ (limit : ℕ) (one_more : limit ≡ document_limit + 1) where
   whole-read : (known : Option (List ℕ)) (bytes : List ℕ) → IfSome (option_map (take limit) known) (λ xs. bytes ≡ xs) → length bytes ≤ document_limit → IsWhole known bytes

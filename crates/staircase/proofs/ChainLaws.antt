@@ -15,9 +15,9 @@ use Rattle.staircase.specs.declared.seen.Seen.{Seen}
 use Rattle.staircase.specs.Chains.{no_seen, row_at, kept_at, is_sibling, leads_on, lined, turned, ends_at, is_next, next_of, Leads, leads_here, leads_more, Nearest, Linked}
 use Rattle.staircase.specs.Parts.{In, AreRows}
 use Rattle.staircase.specs.Seen.{seen_of, AllSeen}
-use Rattle.staircase.proofs.Kin.{IsChild, Twins, twins-join, twins-turned, next-twin, by-next}
-use Rattle.staircase.proofs.Linking.{Falls, Next, leads-on, lined-at, lined-from, lined-many, linked-at, next-falls, next-from, next-to}
-use Rattle.staircase.proofs.Parting.{same-at, in-at, place-in}
+use Rattle.staircase.proofs.Siblings.{IsChild, Twins, twins-join, twins-turned, next-twin, by-next}
+use Rattle.staircase.proofs.LinkLaws.{Falls, Next, leads-on, lined-at, lined-from, lined-many, linked-at, next-falls, next-from, next-to}
+use Rattle.staircase.proofs.PartLaws.{same-at, in-at, place-in}
 
 -- ---- places and rows
 

@@ -8,7 +8,7 @@ use Rattle.doc_table.specs.Touched.{picked, count}
 use Rattle.staircase.specs.declared.kinds.Ctx.{Ctx}
 use Rattle.staircase.specs.Hits.{before, all_after, Ascending}
 use Rattle.staircase.specs.Parts.{In}
-use Rattle.staircase.proofs.Some.{in-picked, picked-in}
+use Rattle.staircase.proofs.SomeTests.{in-picked, picked-in}
 
 not-both : (c d : Ctx) → before c d ≡ true → before d c ≡ true → ⊥
 not-both c d p q = grind (arith, nat_tests)

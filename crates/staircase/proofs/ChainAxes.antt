@@ -18,9 +18,9 @@ use Rattle.staircase.specs.declared.seen.Seen.{Seen}
 use Rattle.staircase.specs.Chains.{first_child, is_sibling, leads_on, row_at, start_of, next_of, onward, Leads, leads_here, leads_more, Linked}
 use Rattle.staircase.specs.Joins.{is_chained, path_with}
 use Rattle.staircase.proofs.ByWay.{by-ancestor_or_self}
-use Rattle.staircase.proofs.Chaining.{pre_at, Laid, Over, over-before, over-leads, leads-over, next-over, leads-past, parent-next, next-parent, leads-siblings, same-place, IsSiblingAxis, siblings-lead, siblings-lead_on}
-use Rattle.staircase.proofs.Kin.{IsChild, Twins, one-row, child-from, child-to, twins-turned, before-from, before-to, after-from, after-to}
-use Rattle.staircase.proofs.Linking.{first-child_from, first-child_to, next-falls}
+use Rattle.staircase.proofs.ChainLaws.{pre_at, Laid, Over, over-before, over-leads, leads-over, next-over, leads-past, parent-next, next-parent, leads-siblings, same-place, IsSiblingAxis, siblings-lead, siblings-lead_on}
+use Rattle.staircase.proofs.Siblings.{IsChild, Twins, one-row, child-from, child-to, twins-turned, before-from, before-to, after-from, after-to}
+use Rattle.staircase.proofs.LinkLaws.{first-child_from, first-child_to, next-falls}
 
 no_zero : (k : ℕ) → nat_eq (suc k) 0 ≡ false
 no_zero k = ne_eqb (suc k) 0 (λ e. omega arith)

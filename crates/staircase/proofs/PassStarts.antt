@@ -22,8 +22,8 @@ use Rattle.staircase.specs.Joins.{AreNodes, end_of, is_down, is_own, own, owning
 use Rattle.staircase.specs.Parts.{In}
 use Rattle.staircase.specs.Passes.{Follows, Reached, follows}
 use Rattle.staircase.proofs.Picks.{picked-like}
-use Rattle.staircase.proofs.Some.{has-in, in-has, rows-sound, rows-complete}
-use Rattle.staircase.proofs.Touching.{own-is, own-up, owning-up, child-touches, down-touches, before-touches, after-touches, end-within}
+use Rattle.staircase.proofs.SomeTests.{has-in, in-has, rows-sound, rows-complete}
+use Rattle.staircase.proofs.TouchedRows.{own-is, own-up, owning-up, child-touches, down-touches, before-touches, after-touches, end-within}
 
 pub comes-all : (n : ℕ) (rows : List ℕ) → UpFrom 0 n rows → Comes rows rows 0 n
 comes-all n rows u = record { up = u; same = λ w l. refl }

@@ -24,13 +24,13 @@ use Rattle.staircase.specs.Parts.{In, AreRows}
 use Rattle.staircase.specs.Seen.{seen_of, AllSeen}
 use Rattle.staircase.specs.Tasks.{AddsAll, AnyOf, Finds, Gains, lets}
 use Rattle.staircase.proofs.RowsRead.{rows_read, read-in, read-ordered, in-read}
-use Rattle.staircase.proofs.Chaining.{Laid, laid, leads-past, place-of, pre_at}
-use Rattle.staircase.proofs.Gaining.{gains-as}
-use Rattle.staircase.proofs.Linking.{found-place, lined-at, lined-many, onward-falls, place-found_at, start-within, starts-from, starts-to, turned-within}
-use Rattle.staircase.proofs.NearTouch.{near-axis, near-own}
-use Rattle.staircase.proofs.Parting.{place-in, same-at}
-use Rattle.staircase.proofs.Rowing.{context-row, stands-from, stands-to, touch-axis, touch-own}
-use Rattle.staircase.proofs.Standing.{chain-on, on-chain}
+use Rattle.staircase.proofs.ChainLaws.{Laid, laid, leads-past, place-of, pre_at}
+use Rattle.staircase.proofs.HitGains.{gains-as}
+use Rattle.staircase.proofs.LinkLaws.{found-place, lined-at, lined-many, onward-falls, place-found_at, start-within, starts-from, starts-to, turned-within}
+use Rattle.staircase.proofs.NearTouched.{near-axis, near-own}
+use Rattle.staircase.proofs.PartLaws.{place-in, same-at}
+use Rattle.staircase.proofs.RowHits.{context-row, stands-from, stands-to, touch-axis, touch-own}
+use Rattle.staircase.proofs.ChainAxes.{chain-on, on-chain}
 
 pub row-of : (axis : Axis) (t : Tree TextId) (cs : List Ctx) → RowsTell t → AreNodes t cs → (c : Ctx) → In c cs → c.pre < length (enc t)
 row-of axis t cs b nodes c i = named_row t (place_of c) b (nodes c i)

@@ -18,9 +18,9 @@ use Rattle.staircase.specs.Hits.{Ascending}
 use Rattle.staircase.specs.Joins.{place_of, places, is_wanted, own, owning, end_of, AreNodes}
 use Rattle.staircase.specs.Parts.{In}
 use Rattle.staircase.specs.Passes.{follows}
-use Rattle.staircase.proofs.Coming.{has-below}
-use Rattle.staircase.proofs.Some.{both_ways, has-in, in-has, any-in, in-any, place-in_some, some-place_in, below-some, some-below, rows-has, rows-ascend, rows-sound, rows-complete}
-use Rattle.staircase.proofs.Looking.{after-attribute}
+use Rattle.staircase.proofs.RowsAhead.{has-below}
+use Rattle.staircase.proofs.SomeTests.{both_ways, has-in, in-has, any-in, in-any, place-in_some, some-place_in, below-some, some-below, rows-has, rows-ascend, rows-sound, rows-complete}
+use Rattle.staircase.proofs.LookLaws.{after-attribute}
 
 -- ---- the rows of the context
 

@@ -7,9 +7,9 @@ use Rattle.xq_base.specs.declared.axis.Axis.{Axis}
 use Rattle.doc_table.specs.Tree.{Tree}
 use Rattle.staircase.specs.declared.kinds.Ctx.{Ctx}
 use Rattle.step_bench.specs.declared.step.Taken.{Taken}
-use Rattle.step_bench.specs.Lines.{line_of}
-use Rattle.step_bench.specs.Runs.{AreLines, Prints}
-use Rattle.step_bench.specs.Steps.{IsTaken}
+use Rattle.step_bench.specs.Line.{line_of}
+use Rattle.step_bench.specs.Run.{AreLines, Prints}
+use Rattle.step_bench.specs.Step.{IsTaken}
 
 appends-more : (old mid new : Option (List ℕ)) (as' bs : List ℕ) → Appends old mid as' → Appends mid new bs → Appends old new (as' ++ bs)
 appends-more None mid new as' bs p q = tt

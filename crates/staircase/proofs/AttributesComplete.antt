@@ -22,7 +22,7 @@ use Rattle.staircase.specs.Joins.{AreNodes, Reaches, place_of}
 use Rattle.staircase.specs.Made.{row_found}
 use Rattle.staircase.specs.Parts.{In}
 use Rattle.staircase.specs.Seen.{seen_of, is_element}
-use Rattle.staircase.proofs.Owning.{selects-pair, to-hit, to-all, in-attribute_parts}
+use Rattle.staircase.proofs.AttributesSound.{selects-pair, to-hit, to-all, in-attribute_parts}
 
 -- a node whose axis holds an attribute: the attribute itself, or its row
 abbrev pub Holds : Axis → Ctx → Ctx → Type 0

@@ -10,7 +10,7 @@ use Rattle.staircase.specs.Parts.{In, Between, IsRising, Splits}
 use Rattle.staircase.specs.Made.{row_found}
 use Rattle.staircase.specs.Tasks.{Adds, AllOf, Goes, Finds, found, lets, keeps, hit_in, covers, limit_covers, ends_before}
 use Rattle.staircase.proofs.Elements.{in-left, in-right, in-parts}
-use Rattle.staircase.proofs.Parting.{same-at}
+use Rattle.staircase.proofs.PartLaws.{same-at}
 
 -- at the end of a list all of it came
 pub found-end : (counting : Bool) (task : Task) (out old : List Hit) (k : ℕ) (items : List Seen) → out ++ found counting task (drop k items) ≡ old ++ found counting task items → length items ≤ k → out ≡ old ++ found counting task items

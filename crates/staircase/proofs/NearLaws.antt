@@ -17,13 +17,13 @@ use Rattle.staircase.specs.Hits.{Ascending}
 use Rattle.staircase.specs.Joins.{AreNodes, own, places, is_near, adds_siblings}
 use Rattle.staircase.specs.Near.{is_near_row, marked, comes_before, has_wanted, parents_left, row_left, next_near, IsInside, AreParents, IsNext, is_passed, NearAt, GoesOn, NearAhead}
 use Rattle.staircase.specs.Passes.{NextIs}
-use Rattle.staircase.proofs.Beginning.{own-start, tree-nests}
+use Rattle.staircase.proofs.PassStarts.{own-start, tree-nests}
 use Rattle.staircase.proofs.ByWay.{child-after, root-holds, way-within, way-holds, way-child, sibling-later, sibling-child, sibling-root}
 use Rattle.staircase.proofs.Children.{child-within, not-child, past-child}
-use Rattle.staircase.proofs.Coming.{any-none, comes-past}
+use Rattle.staircase.proofs.RowsAhead.{any-none, comes-past}
 use Rattle.staircase.proofs.Picks.{picked-like}
-use Rattle.staircase.proofs.Some.{not_true}
-use Rattle.staircase.proofs.Touching.{own-up, any-context}
+use Rattle.staircase.proofs.SomeTests.{not_true}
+use Rattle.staircase.proofs.TouchedRows.{own-up, any-context}
 
 and_no : (b : Bool) → (b && false) ≡ false
 and_no true = refl

@@ -17,7 +17,7 @@ use Rattle.staircase.specs.Parts.{In}
 use Rattle.doc_table.proofs.Kids.{within-parts}
 use Rattle.staircase.proofs.ByWay.{way-holds, way-before}
 use Rattle.staircase.proofs.Children.{child-within}
-use Rattle.staircase.proofs.Rowing.{context-row, some-row_of}
+use Rattle.staircase.proofs.RowHits.{context-row, some-row_of}
 
 -- a row on the way to a row of the context
 pub near-way : (axis : Axis) (t : Tree TextId) (cs : List Ctx) (c v : ℕ) → is_near axis ≡ true → c < length (enc t) → is_context axis (places cs) c ≡ true → on_way t v c ≡ true → touched axis t (places cs) v ≡ true

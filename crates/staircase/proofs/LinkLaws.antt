@@ -13,7 +13,7 @@ use Rattle.staircase.specs.Chains.{row_at, kept_at, is_sibling, leads_on, lined,
 use Rattle.staircase.specs.Made.{iter_for}
 use Rattle.staircase.specs.Parts.{In, AreRows, IsRising, Splits}
 use Rattle.staircase.proofs.Elements.{in-left, in-right, in-parts}
-use Rattle.staircase.proofs.Parting.{same-at, in-at, place-in}
+use Rattle.staircase.proofs.PartLaws.{same-at, in-at, place-in}
 
 -- ---- searches
 

@@ -7,7 +7,7 @@ use Rattle.doc_table.specs.Enc.{Line, line_in}
 use Rattle.doc_table.specs.Places.{below}
 use Rattle.staircase.specs.Ahead.{has, any, UpFrom, first_of, is_first, without, Comes}
 use Rattle.staircase.specs.Passes.{NextIs, Reached, Follows, follows, earlier, nearer}
-use Rattle.staircase.proofs.Coming.{any-none, comes-first, comes-none, comes-later, comes-past}
+use Rattle.staircase.proofs.RowsAhead.{any-none, comes-first, comes-none, comes-later, comes-past}
 
 -- no row still to come has a row before all of them below it
 none-below : (lines : List (Line TextId)) (a n : ℕ) (rest : List ℕ) → UpFrom a n rest → (w : ℕ) → w < a → any (λ c. below lines c w) rest ≡ false
