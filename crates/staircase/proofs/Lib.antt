@@ -30,3 +30,4 @@ pub mod Tallying
 pub mod Tasking
 pub mod Touching
 pub mod Walking
+pub mod References
