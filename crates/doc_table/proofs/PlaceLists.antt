@@ -144,8 +144,8 @@ module _ {T : Type 0} where
           absurd (true≢false (sym (places_order.third a b there q) ∙ back))
 
   pub one_place : PlacesOneToOne T
-  one_place eq empty t h =
-      let rows : node_paths t ≡ map (node_at t) (places_of t) = nodes_by_rows eq empty t h in
+  one_place t h =
+      let rows : node_paths t ≡ map (node_at t) (places_of t) = nodes_by_rows t h in
       record {
         node = λ p k. (lists_nodes t).nodes (node_at t p) (subst (In (node_at t p)) (sym rows) (in-map (node_at t) p (places_of t) ((lists_places t).all p k)));
         apart = same-places t;

@@ -6,7 +6,7 @@ use Rattle.std.proofs.lemmas.Bool.{false≢true, eqb-true, and_parts}
 use Rattle.xq_base.specs.declared.axis.Axis.{Axis}
 use Rattle.xq_base.specs.declared.item.FragKey.{FragKey}
 use Rattle.xq_base.specs.declared.item.NodeRef.{NodeRef}
-use Rattle.xq_base.specs.Texts.{Text, text_eq, is_empty_text}
+use Rattle.xq_base.specs.Texts.{Text, text_eq}
 use Rattle.doc_table.specs.Tree.{Tree, text_in, with_texts}
 use Rattle.doc_table.specs.Paths.{Path, is_same, path_eq, label_at}
 use Rattle.doc_table.specs.Given.{tree_given}
@@ -14,7 +14,7 @@ use Rattle.doc_table.specs.Axes.{Test, id_eq, selects_label, steps_to}
 use Rattle.doc_table.specs.Places.{names_node, node_at}
 use Rattle.doc_table.specs.Identity.{tree_id_eq, tree_id_less, Node, node_eq, node_less, node_of, id_of_key, place_of, ref_less}
 use Rattle.doc_table.specs.Nodes.{node_paths, node_in_tree}
-use Rattle.doc_table.specs.Sound.{is_sound}
+use Rattle.doc_table.specs.Attributes.{attributes_apart}
 use Rattle.doc_table.specs.Ascending.{In}
 use Rattle.doc_table.specs.Steps.{test_with, found, in_document_order}
 use Rattle.doc_table.specs.NodeLaws.{TestsIgnoreIdentity, StepsIgnoreIdentity, with_id}
@@ -24,7 +24,7 @@ use Rattle.doc_table.proofs.StrictOrders.{nodes_order, same-ids, same-lists}
 use Rattle.doc_table.proofs.Ascending.{in-left, in-right, in-parts, in-map, in-unmap, has-in, one_ascending, ascends-append, ascends-map, stands_once}
 use Rattle.doc_table.proofs.NodeLists.{lists_nodes}
 use Rattle.doc_table.proofs.PlaceLists.{one_place}
-use Rattle.doc_table.proofs.ByTexts.{alike_by_text, sound_by_text, steps_by_text}
+use Rattle.doc_table.proofs.ByTexts.{alike_by_text, steps_by_text}
 
 -- ---- lists
 
@@ -117,7 +117,7 @@ reached_together {T} eq axis test trees cs ds hs ks before a b = record {
 -- ---- steps by references
 
 module _ (axis : Axis) (test : Test Text) (trees : FragKey → Tree Text) (context hits : List NodeRef)
-    (sound : (c : NodeRef) → In c context → is_sound text_eq is_empty_text (trees c.frag) ≡ true) (reached : AreReached text_eq axis test trees context hits) where
+    (sound : (c : NodeRef) → In c context → attributes_apart (trees c.frag) ≡ true) (reached : AreReached text_eq axis test trees context hits) where
   abbrev goes_from : NodeRef → Path → Bool
   goes_from c q = steps_to text_eq axis test (trees c.frag) (node_at (trees c.frag) (place_of c)) q
 
@@ -156,8 +156,8 @@ module _ (axis : Axis) (test : Test Text) (trees : FragKey → Tree Text) (conte
       let c : NodeRef = s.0 in
       let key : c.frag ≡ r.frag = s.2 in
       let q : Path = node_at (trees r.frag) (place_of r) in
-      let ok : is_sound text_eq is_empty_text (trees r.frag) ≡ true = subst (λ k. is_sound text_eq is_empty_text (trees k) ≡ true) key (sound c s.1) in
-      let there : In q (node_paths (trees r.frag)) = (lists_nodes (trees r.frag)).all q ((one_place text_eq is_empty_text (trees r.frag) ok).node (place_of r) (reached.named r h)) in
+      let ok : attributes_apart (trees r.frag) ≡ true = subst (λ k. attributes_apart (trees k) ≡ true) key (sound c s.1) in
+      let there : In q (node_paths (trees r.frag)) = (lists_nodes (trees r.frag)).all q ((one_place (trees r.frag) ok).node (place_of r) (reached.named r h)) in
       let listed : In q (node_paths (trees c.frag)) = subst (λ k. In q (node_paths (trees k))) (sym key) there in
       let goes : goes_from c q ≡ true = subst (λ k. steps_to text_eq axis test (trees k) (node_at (trees k) (place_of c)) q ≡ true) (sym key) s.3 in
       let inner = in-map (node_in_tree (node_of trees c)) q (filter (goes_from c) (node_paths (trees c.frag))) (in-filter (goes_from c) q (node_paths (trees c.frag)) listed goes) in
@@ -168,7 +168,7 @@ module _ (axis : Axis) (test : Test Text) (trees : FragKey → Tree Text) (conte
   from-found n h =
       let a = comes n h in
       let t : Tree Text = trees a.from.frag in
-      let place = (one_place text_eq is_empty_text t (sound a.from a.there)).placed a.path ((lists_nodes t).nodes a.path a.listed) in
+      let place = (one_place t (sound a.from a.there)).placed a.path ((lists_nodes t).nodes a.path a.listed) in
       let r : NodeRef = record { frag = a.from.frag; pre = place.0.pre; attr = place.0.attr } in
       let goes : goes_from a.from (node_at t (place_of r)) ≡ true = ap (goes_from a.from) place.2 ∙ a.goes in
       let there : In r hits = reached.complete r place.1 (a.from, a.there, refl, goes) in
@@ -192,7 +192,7 @@ step_by_references axis test trees context hits sound reached = by-references ax
 pub step_by_numbers : StepByNumbers
 step_by_numbers texts axis test trees context hits kept given reached =
     step_by_references axis (test_with (text_in texts) test) with_them context hits
-    (λ c h. sound_by_text texts (trees c.frag) kept.apart kept.empty (kept.given c h) ∙ kept.sound c h)
+    (λ c h. (alike_by_text texts (trees c.frag)).apart ∙ kept.apart c h)
     (record {
       ascends = reached.ascends;
       named = λ r h. named r ∙ reached.named r h;
@@ -215,7 +215,7 @@ step_by_numbers texts axis test trees context hits kept given reached =
         ≡ steps_to text_eq axis (test_with (text_in texts) test) (with_texts texts (trees r.frag)) (node_at (with_texts texts (trees r.frag)) (place_of c)) (node_at (with_texts texts (trees r.frag)) (place_of r))
     goes c r k =
         let a = alike_by_text texts (trees r.frag) in
-        steps_by_text texts axis test (trees r.frag) (node_at (trees r.frag) (place_of c)) (node_at (trees r.frag) (place_of r)) kept.apart given k
+        steps_by_text texts axis test (trees r.frag) (node_at (trees r.frag) (place_of c)) (node_at (trees r.frag) (place_of r)) kept.different given k
         ∙ ap (λ p. steps_to text_eq axis (test_with (text_in texts) test) (with_texts texts (trees r.frag)) p (node_at (trees r.frag) (place_of r))) (sym (a.node (place_of c)))
         ∙ ap (steps_to text_eq axis (test_with (text_in texts) test) (with_texts texts (trees r.frag)) (node_at (with_texts texts (trees r.frag)) (place_of c))) (sym (a.node (place_of r)))
 

@@ -10,7 +10,7 @@ use Rattle.doc_table.specs.Axes.{Test, selects_label}
 use Rattle.doc_table.specs.Places.{Place, place_less, names_node, node_at}
 use Rattle.doc_table.specs.NodeRows.{places_of}
 use Rattle.doc_table.specs.Identity.{TreeId, Node, node_eq, node_less, node_of, place_of, ref_eq, ref_less}
-use Rattle.doc_table.specs.Sound.{is_sound}
+use Rattle.doc_table.specs.Attributes.{attributes_apart}
 use Rattle.doc_table.specs.Nodes.{node_paths, label_of_node}
 use Rattle.doc_table.specs.Ascending.{In, Ascends, IsOrder}
 use Rattle.doc_table.specs.Steps.{found}
@@ -53,7 +53,7 @@ pub record OnePlace {T : Type 0} (t : Tree T) : Type 0 where
   pub placed : (q : Path) → has_node t q ≡ true → (p : Place) × (names_node t p ≡ true) × (node_at t p ≡ q)
 
 abbrev pub PlacesOneToOne : Type 0 → Type 0
-PlacesOneToOne T = (eq : T → T → Bool) (empty : T → Bool) (t : Tree T) → is_sound eq empty t ≡ true → OnePlace t
+PlacesOneToOne T = (t : Tree T) → attributes_apart t ≡ true → OnePlace t
 
 -- a node test sees the label alone
 abbrev pub TestsIgnoreIdentity : Type 0 → Type 0

@@ -1,9 +1,7 @@
 -- What other texts in place of a tree's leave as it is, and what a pool that grew keeps.
-use Rattle.std.specs.Prelude.{ℕ, ◌≡◌, ◌≤◌, Bool, true, List, [], length, map, take, slice_get, Some}
+use Rattle.std.specs.Prelude.{ℕ, ◌≡◌, ◌≤◌, true, List, [], length, map, take, slice_get, Some}
 use Rattle.xq_base.specs.declared.axis.Axis.{Axis}
-use Rattle.xq_base.specs.declared.item.FragKey.{FragKey}
 use Rattle.xq_base.specs.declared.item.Item.{Item as Held}
-use Rattle.xq_base.specs.declared.item.Item.TheVariants as i
 use Rattle.xq_base.specs.declared.item.TextId.{TextId}
 use Rattle.xq_base.specs.Pool.{NoRepeats}
 use Rattle.xq_base.specs.Texts.{Text, text_eq, is_empty_text}
@@ -15,8 +13,11 @@ use Rattle.doc_table.specs.Places.{Place, names_node, node_at}
 use Rattle.doc_table.specs.Touched.{counts, touched_rows}
 use Rattle.doc_table.specs.Sound.{is_sound}
 use Rattle.doc_table.specs.Spine.{is_empty_id}
-use Rattle.doc_table.specs.Given.{is_given, tree_given}
-use Rattle.doc_table.specs.Items.{item_of}
+use Rattle.doc_table.specs.Given.{is_given, tree_given, trees_given}
+use Rattle.doc_table.specs.Stores.{Holdings, AreGiven}
+use Rattle.doc_table.specs.StoredItems.{ItemsGiven, meanings}
+use Rattle.doc_table.specs.Documents.{documents_in}
+use Rattle.doc_table.specs.Attributes.{attributes_apart}
 use Rattle.doc_table.specs.Nodes.{node_paths}
 use Rattle.doc_table.specs.Steps.{option_with, test_with}
 use Rattle.doc_table.specs.TestTexts.{test_given}
@@ -34,6 +35,7 @@ module _ {A B : Type 0} where
     pub named : (p : Place) → names_node (tree_with f t) p ≡ names_node t p
     pub node : (p : Place) → node_at (tree_with f t) p ≡ node_at t p
     pub label : (p : Path) → label_at (tree_with f t) p ≡ option_with (label_with f) (label_at t p)
+    pub apart : attributes_apart (tree_with f t) ≡ attributes_apart t
     pub touched : (axis : Axis) (context : List Place) → touched_rows axis (tree_with f t) context ≡ touched_rows axis t context
     pub counted : (axis : Axis) (context : List Place) → counts axis (tree_with f t) context ≡ counts axis t context
 
@@ -55,21 +57,14 @@ StepsByText = (texts : List Text) (axis : Axis) (test : Test TextId) (t : Tree T
 abbrev pub Grows : List Text → List Text → Type 0
 Grows old new = take (length old) new ≡ old
 
--- a pool of so many texts gave the numbers in an item, and those of the tree in which a node stands
-abbrev pub item_given : ℕ → (FragKey → Tree TextId) → Held → Bool
-item_given n trees (i.Int z) = true
-item_given n trees (i.Str id) = is_given n id
-item_given n trees (i.Untyped id) = is_given n id
-item_given n trees (i.Bool b) = true
-item_given n trees (i.Node r) = tree_given n (trees r.frag)
-
 -- what the pool gave is the same in the later one
 pub record KeepsTexts (old new : List Text) : Type 0 where
   pub longer : length old ≤ length new
   pub numbers : (n : ℕ) (text : Text) → slice_get old n ≡ Some text → slice_get new n ≡ Some text
   pub texts : (id : TextId) → is_given (length old) id ≡ true → text_in new id ≡ text_in old id
   pub trees : (t : Tree TextId) → tree_given (length old) t ≡ true → with_texts new t ≡ with_texts old t
-  pub items : (under : FragKey → Tree TextId) (item : Held) → item_given (length old) under item ≡ true → item_of new under item ≡ item_of old under item
+  pub documents : (h : Holdings) → AreGiven old h.docs → trees_given (length old) h ≡ true → documents_in new h ≡ documents_in old h
+  pub items : (h : Holdings) (held : List Held) → trees_given (length old) h ≡ true → ItemsGiven old h held → meanings new h held ≡ meanings old h held
 
 abbrev pub GrownPoolKeeps : Type 0
 GrownPoolKeeps = (old new : List Text) → Grows old new → KeepsTexts old new

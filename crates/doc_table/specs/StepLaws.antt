@@ -1,17 +1,16 @@
 -- What a step finds, by references (XQuery 1.0, section 3.2.1).
-use Rattle.std.specs.Prelude.{◌≡◌, Bool, true, List, [], ◌++◌, length, map, flat_map, slice_get, Some}
+use Rattle.std.specs.Prelude.{◌≡◌, Bool, true, List, ◌++◌, length, map, flat_map}
 use Rattle.xq_base.specs.declared.axis.Axis.{Axis}
 use Rattle.xq_base.specs.declared.item.FragKey.{FragKey}
 use Rattle.xq_base.specs.declared.item.NodeRef.{NodeRef}
 use Rattle.xq_base.specs.declared.item.TextId.{TextId}
 use Rattle.xq_base.specs.Pool.{NoRepeats}
-use Rattle.xq_base.specs.Texts.{Text, text_eq, is_empty_text}
+use Rattle.xq_base.specs.Texts.{Text, text_eq}
 use Rattle.doc_table.specs.Tree.{Tree, text_in, with_texts}
 use Rattle.doc_table.specs.Axes.{Test, id_eq, steps_to}
 use Rattle.doc_table.specs.Places.{names_node, node_at}
 use Rattle.doc_table.specs.Identity.{Node, tree_id_eq, tree_id_less, node_eq, node_less, node_of, id_of_key, place_of, ref_less}
-use Rattle.doc_table.specs.Sound.{is_sound}
-use Rattle.doc_table.specs.Spine.{is_empty_id}
+use Rattle.doc_table.specs.Attributes.{attributes_apart}
 use Rattle.doc_table.specs.Given.{tree_given}
 use Rattle.doc_table.specs.Ascending.{In, Ascends, StandsOnce}
 use Rattle.doc_table.specs.Steps.{test_with, found, in_document_order}
@@ -50,16 +49,15 @@ ReachedTogether T = (eq : T → T → Bool) (axis : Axis) (test : Test T) (trees
 -- references to exactly the nodes that a step goes to are, as nodes, what the step finds
 abbrev pub StepByReferences : Type 0
 StepByReferences = (axis : Axis) (test : Test Text) (trees : FragKey → Tree Text) (context hits : List NodeRef)
-    → ((c : NodeRef) → In c context → is_sound text_eq is_empty_text (trees c.frag) ≡ true)
+    → ((c : NodeRef) → In c context → attributes_apart (trees c.frag) ≡ true)
     → AreReached text_eq axis test trees context hits
     → map (node_of trees) hits ≡ in_document_order (flat_map (found axis test) (map (node_of trees) context))
 
--- what is known of the trees under the keys of a context: a pool gave their numbers, and they are sound
+-- what is known of the trees under the keys of a context: a pool gave their numbers, and their attributes stand apart
 pub record AreKept (texts : List Text) (trees : FragKey → Tree TextId) (context : List NodeRef) : Type 0 where
-  pub apart : NoRepeats texts
-  pub empty : slice_get texts 0 ≡ Some []
+  pub different : NoRepeats texts
   pub given : (c : NodeRef) → In c context → tree_given (length texts) (trees c.frag) ≡ true
-  pub sound : (c : NodeRef) → In c context → is_sound id_eq is_empty_id (trees c.frag) ≡ true
+  pub apart : (c : NodeRef) → In c context → attributes_apart (trees c.frag) ≡ true
 
 -- the same over text numbers
 abbrev pub StepByNumbers : Type 0

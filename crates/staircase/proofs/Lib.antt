@@ -30,3 +30,4 @@ pub mod TallyLaws
 pub mod TaskLaws
 pub mod TouchedRows
 pub mod WalkLaws
+pub mod References
