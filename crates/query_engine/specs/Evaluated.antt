@@ -26,13 +26,16 @@ abbrev mutual
   has_forms sums (Var o x) = true
   has_forms sums (Let o x a b) = has_forms sums a && has_forms sums b
   has_forms sums (For o x p a b) = has_forms sums a && has_forms sums b
-  has_forms sums (Call o f.Add as') = sums && have_forms sums as'
+  has_forms sums (Call o f.Add as') = sums && two_forms sums as'
   has_forms sums (Call o f.Doc as') = not sums && is_name as'
   has_forms sums _ = false
 
-  pub have_forms : Bool → PlainCores → Bool
-  have_forms sums no_cores = true
-  have_forms sums (one_core a as') = has_forms sums a && have_forms sums as'
+  -- of two operands
+  pub two_forms : Bool → PlainCores → Bool
+  two_forms sums no_cores = false
+  two_forms sums (one_core a no_cores) = false
+  two_forms sums (one_core a (one_core b no_cores)) = has_forms sums a && has_forms sums b
+  two_forms sums (one_core a (one_core b (one_core c as'))) = false
 
 abbrev pub is_evaluated : PlainCore → Bool
 is_evaluated core = has_forms true core || has_forms false core
@@ -44,4 +47,9 @@ IsFixed texts core = (later : Texts) → Grows texts later → core_of later cor
 -- what evaluation asks of a Core
 pub record CanEvaluate (texts : Texts) (core : Core) : Type 0 where
   pub forms : is_evaluated (core_of texts core) ≡ true
+  pub fixed : IsFixed texts core
+
+-- the same of a part of it, with sums or without
+pub record Runs (sums : Bool) (texts : Texts) (core : Core) : Type 0 where
+  pub forms : has_forms sums (core_of texts core) ≡ true
   pub fixed : IsFixed texts core

@@ -1,6 +1,7 @@
 pub mod Answering
 pub mod Bytes
 pub mod Evaluated
+pub mod Evaluating
 pub mod Grammar
 pub mod Literals
 pub mod Look
@@ -12,5 +13,6 @@ pub mod Query
 pub mod Reading
 pub mod Rules
 pub mod Scope
+pub mod Sums
 pub mod Tokens
 pub mod Words

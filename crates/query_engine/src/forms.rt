@@ -45,22 +45,23 @@ fn has_forms(sums: bool, core: &Core, texts: &Pool) -> bool
         CoreKind::For { seq, body, .. } => {
             has_forms(sums, seq.get(), texts) && has_forms(sums, body.get(), texts)
         }
-        CoreKind::Call(Fun::Add, operands) => sums && have_forms(sums, operands.as_slice(), texts),
+        CoreKind::Call(Fun::Add, operands) => sums && two_forms(sums, operands.as_slice(), texts),
         CoreKind::Call(Fun::Doc, arguments) => !sums && is_name(arguments.as_slice(), texts),
         _ => false,
     }
 }
 
+/// The same of two operands.
 #[cycle(forms)]
-fn have_forms(sums: bool, all: &[Core], texts: &Pool) -> bool
-    ensures { result ≡ spec.have_forms sums (cores_of (map (core_of texts.now) all.now)) }
+fn two_forms(sums: bool, operands: &[Core], texts: &Pool) -> bool
+    ensures { result ≡ spec.two_forms sums (cores_of (map (core_of texts.now) operands.now)) }
 {
-    for part in all {
-        if !has_forms(sums, part, texts) {
-            return false;
-        }
+    match operands {
+        [first, second] => has_forms(sums, first, texts) && has_forms(sums, second, texts),
+        [] => false,
+        [_] => false,
+        [_, _, _, ..] => false,
     }
-    true
 }
 
 /// Whether a Core is evaluated. The pool gives its texts.

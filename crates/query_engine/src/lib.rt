@@ -5,6 +5,7 @@
 
 mod bytes;
 mod engine;
+mod evaluate;
 mod fault;
 mod forms;
 mod grammar;
@@ -12,6 +13,8 @@ mod look;
 mod names;
 mod normal;
 mod scope;
+mod size;
+mod sums;
 mod token;
 mod tree;
 
