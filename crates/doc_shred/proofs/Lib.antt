@@ -25,3 +25,4 @@ pub mod Spines
 pub mod StartLaws
 pub mod TagLaws
 pub mod Whole
+pub mod PlainRuns

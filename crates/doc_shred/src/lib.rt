@@ -12,6 +12,7 @@ mod lines;
 mod markup;
 mod names;
 mod pieces;
+mod plain;
 mod prolog;
 mod references;
 mod refusal;
