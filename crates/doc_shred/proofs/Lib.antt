@@ -26,3 +26,4 @@ pub mod StartLaws
 pub mod TagLaws
 pub mod Whole
 pub mod PlainRuns
+pub mod PlainTexts

@@ -59,7 +59,7 @@ wider_run p q h (c ∷ cs) e = by (p c) refl e (wider_run p q h cs)
 
 -- ---- texts
 
-both : (a b : Bool) → a && b ≡ true → (a ≡ true) × (b ≡ true)
+pub both : (a b : Bool) → a && b ≡ true → (a ≡ true) × (b ≡ true)
 both true b e = (refl, e)
 both false b e = absurd (true≢false (sym e))
 
@@ -134,7 +134,7 @@ plain_is_name (x ∷ xs) s e =
 
 -- ---- what is read
 
-plain_starts : (bytes : List ℕ) → starts is_plain_byte bytes ≡ true → starts is_data_byte bytes ≡ true
+pub plain_starts : (bytes : List ℕ) → starts is_plain_byte bytes ≡ true → starts is_data_byte bytes ≡ true
 plain_starts [] e = absurd (true≢false (sym e))
 plain_starts (c ∷ cs) e = plain_data c e
 

@@ -1,5 +1,6 @@
 //! Start tags: an element is opened, and its attributes are added.
-ghost use Rattle.std.specs.Prelude.{◌≡◌, ◌<◌, ◌≤◌, ◌+◌, ◌-◌, ◌^◌, [], true, length, IfOk, OnOk, Err, None, ◌⊎◌, string_bytes};
+ghost use Rattle.std.specs.Prelude.{◌≡◌, ◌<◌, ◌≤◌, ◌+◌, ◌-◌, ◌^◌, [], true, length, IfOk, OnOk, Err, None, ◌⊎◌};
+ghost use Rattle.std.specs.Cow.{cow_str_bytes};
 ghost use Rattle.xq_base.specs.Pool.{NoRepeats};
 ghost use Rattle.doc_table.specs.Spine.{takes_attributes, attributes_open};
 ghost use Rattle.doc_shred.specs.declared.fault.Fault.TheVariants.{Malformed};
@@ -16,12 +17,13 @@ use crate::values::value;
 use doc_table::{FragmentBuilder, Kind};
 use indexmap::IndexSet;
 use std::alloc::Global;
+use std::borrow::CowStr;
 use xq_base::Pool;
 
 /// White space and an attribute, with its name and value (XML 1.0, section 3.1, production 41).
 #[tactic(auto, unfolding(crate::specs::Reading::attribute))]
-fn attribute(alloc: Global, bytes: &[u8]) -> Result<((&str, String), &[u8]), Fault>
-    ensures { IsRead (λ x. ((x.0.0.now, string_bytes x.0.1), x.1.now)) (r.attribute bytes.now) result }
+fn attribute(alloc: Global, bytes: &[u8]) -> Result<((&str, CowStr<'_>), &[u8]), Fault>
+    ensures { IsRead (λ x. ((x.0.0.now, cow_str_bytes x.0.1), x.1.now)) (r.attribute bytes.now) result }
 {
     let Some((_, rest)) = space(bytes) else {
         return Err(Fault::Malformed);
