@@ -100,7 +100,7 @@ plain_value_read quote (c ∷ cs) rest s e =
     let start = value_starts quote (c ∷ cs) s in
     let turns : length (c ∷ cs) + 1 ≡ suc (suc (length cs)) = omega arith in
     let part = value_read quote (c ∷ cs) (run (is_plain_value_byte quote) (c ∷ cs)) (after_run (is_plain_value_byte quote) (c ∷ cs)) start same.0 same.1
-      (values_spelled quote (run (is_plain_value_byte quote) (c ∷ cs)) all) (values_kept quote (run (is_plain_value_byte quote) (c ∷ cs)) all) in
+    (values_spelled quote (run (is_plain_value_byte quote) (c ∷ cs)) all) (values_kept quote (run (is_plain_value_byte quote) (c ∷ cs)) all) in
     sym (ap (λ n. r.value_from quote [] n (c ∷ cs)) turns
     ∙ value_turn quote [] (suc (length cs)) (c ∷ cs) (after_run (is_plain_value_byte quote) (c ∷ cs)) (run (is_plain_value_byte quote) (c ∷ cs)) (value_goes_on_at quote (c ∷ cs) start) part
     ∙ value_closed quote (run (is_plain_value_byte quote) (c ∷ cs) ∷ []) (length cs) (after_run (is_plain_value_byte quote) (c ∷ cs)) (Some (tt {0}, rest)) ends.1 e

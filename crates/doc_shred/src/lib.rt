@@ -2,6 +2,7 @@
 //! is a fragment, or the one reason why there is none.
 #![tactic(auto)]
 
+mod attributes;
 mod bytes;
 mod content;
 mod depth;

@@ -9,13 +9,13 @@ ghost use Rattle.doc_shred.specs.Reading as r;
 ghost use Rattle.doc_shred.specs.Standing.{IsLater, AttributeAdded, AttributeTwice, AttributesAdded, Walked, Takes, Starts, name_numbers};
 ghost use Rattle.doc_shred.specs.Walk as w;
 
+use crate::attributes::NameNumbers;
 use crate::bytes::strip;
 use crate::fault::Fault;
 use crate::markup::{equals, has_attribute, name, space, tag_end};
 use crate::names::OpenNames;
 use crate::values::value;
 use doc_table::{FragmentBuilder, Kind};
-use indexmap::IndexSet;
 use std::alloc::Global;
 use std::borrow::CowStr;
 use xq_base::Pool;
@@ -46,16 +46,16 @@ fn add_attribute<'a>(
     alloc: Global,
     pool: &mut Pool,
     builder: &mut FragmentBuilder,
-    names: &mut IndexSet<u64>,
+    names: &mut NameNumbers,
     bytes: &'a [u8],
 ) -> Result<&'a [u8], Fault>
     requires element { takes_attributes builder.old.nodes ≡ true }
-    requires names { names.old.keys ≡ name_numbers builder.old.nodes }
+    requires names { names.old ≡ name_numbers builder.old.nodes }
     requires room { length (attributes_open builder.old.nodes) + 1 < 2 ^ 32 - 1 }
     ensures later { IsLater pool.old pool.new }
     ensures added { IfOk result (λ rest. AttributeAdded pool.new builder.old builder.new bytes.now rest.now) }
     ensures different { IfOk result (λ _. NoRepeats pool.new) }
-    ensures names { OnOk result (names.new.keys ≡ name_numbers builder.new.nodes) }
+    ensures names { OnOk result (names.new ≡ name_numbers builder.new.nodes) }
     ensures refused { result ≡ Err Malformed → (r.attribute bytes.now ≡ None) ⊎ (AttributeTwice pool.new builder.old bytes.now × NoRepeats pool.new) }
 {
     let ((name, value), rest) = match attribute(alloc, bytes) {
@@ -85,7 +85,7 @@ fn add_attributes<'a>(
     ensures added { IfOk result (λ rest. AttributesAdded pool.new builder.old builder.new bytes.now rest.now) }
     ensures refused { result ≡ Err Malformed → w.attributes bytes.now ≡ None }
 {
-    let mut names = IndexSet::new(alloc);
+    let mut names = NameNumbers::new(alloc, pool.keys());
     let mut rest = bytes;
     for _turn in 0..bytes.len() + 1 {
         if !has_attribute(rest) {
