@@ -6,6 +6,7 @@ use Rattle.xq_base.specs.declared.fun.Fun.{Fun}
 use Rattle.xq_base.specs.declared.fun.Fun.TheVariants as f
 use Rattle.xq_base.specs.Answers.{check_rank}
 use Rattle.doc_table.specs.Tree.{NodeKind, ElementNode, AttributeNode, InstructionNode, TextNode, CommentNode, DocumentNode}
+use Rattle.doc_table.specs.Values.{is_node}
 use Rattle.core_meaning.specs.Expr.{Rule, Apply, Make, FailWith, Expr, Exprs, Spine, Lit, Empty, Var, Seq, Let, For, If, Sorted, Call, no_more, one_more, Leaf, ForBind, LetBind, WhereBind}
 use Rattle.core_meaning.specs.Work.{is_member}
 
@@ -164,10 +165,10 @@ rule_fits (Make kind) es = nat_eq (how_many es) (parts_of_build kind)
 rule_fits (FailWith code) es = nat_eq (how_many es) 0 && is_dynamic code
 rule_fits _ es = nat_eq (how_many es) 1
 
--- each variable is one of these or bound round it, and each rule has the parts that it takes
+-- each literal is an atomic value, each variable is one of these or bound round it, and each rule has the parts that it takes
 abbrev mutual
   pub fits : List ℕ → Expr → Bool
-  fits vars (Lit a) = true
+  fits vars (Lit a) = not (is_node a)
   fits vars Empty = true
   fits vars (Var x) = is_member x vars
   fits vars (Seq a b) = fits vars a && fits vars b

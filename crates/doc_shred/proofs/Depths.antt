@@ -5,7 +5,8 @@ use Rattle.std.proofs.lemmas.Bool.Decides.{nat_tests}
 use Rattle.std.proofs.lemmas.List.{at_drop_more, at_drop_all}
 use Rattle.doc_table.specs.Tree.{Tree, Forest, Branch, no_more, one_more, tree_with, forest_with}
 use Rattle.doc_table.specs.Enc.{Line, enc_at, encs_at, enc, no_line, line_in}
-use Rattle.doc_shred.specs.Document.{deepest, deepest_in, level_limit}
+use Rattle.doc_shred.specs.Limits.{level_limit}
+use Rattle.doc_shred.specs.Document.{deepest, deepest_in}
 
 swapped : (a b c : Bool) → a || (b || c) ≡ b || (a || c)
 swapped true true c = refl

@@ -27,3 +27,4 @@ pub mod TagLaws
 pub mod Whole
 pub mod PlainRuns
 pub mod PlainTexts
+pub mod DocumentForms

@@ -14,7 +14,8 @@ use Rattle.doc_shred.specs.declared.refusal.ShredFault.{ShredFault}
 use Rattle.doc_shred.specs.declared.refusal.ShredFault.TheVariants.{NotWellFormed, Unsupported, TooDeep, NoMemory}
 use Rattle.doc_shred.specs.Content.{Text}
 use Rattle.doc_shred.specs.Document as d
-use Rattle.doc_shred.specs.Document.{text_of, IsDocument, IsUnsupported, IsTooDeep, deepest, level_limit}
+use Rattle.doc_shred.specs.Limits.{level_limit}
+use Rattle.doc_shred.specs.Document.{text_of, IsDocument, IsUnsupported, IsTooDeep, deepest}
 use Rattle.doc_shred.specs.Walk as w
 use Rattle.doc_shred.specs.Standing.{Texts, seen}
 use Rattle.doc_shred.specs.Refusals.{DocumentRead, DocumentRefused}

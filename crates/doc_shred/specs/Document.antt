@@ -5,6 +5,7 @@ use Rattle.doc_shred.specs.Rules.{Rule, ◌▷=◌, ◌▷◌, gives, where_, �
 use Rattle.doc_shred.specs.Classes.{is_known_encoding}
 use Rattle.doc_shred.specs.Prolog.{declaration, doctype, misc}
 use Rattle.doc_shred.specs.Content.{Text, IsNode}
+use Rattle.doc_shred.specs.Limits.{level_limit}
 
 -- the bytes without a byte order mark at their start (section 4.3.3)
 abbrev pub without_mark : List ℕ → List ℕ
@@ -79,10 +80,6 @@ module _ {T : Type 0} where
     pub deepest_in : Forest T → ℕ
     deepest_in no_more = 0
     deepest_in (one_more t ts) = max (suc (deepest t)) (deepest_in ts)
-
--- the greatest level that is read (own rule)
-abbrev pub level_limit : ℕ
-level_limit = 65535
 
 abbrev pub IsTooDeep : Tree Text → Type 0
 IsTooDeep tree = level_limit < deepest tree

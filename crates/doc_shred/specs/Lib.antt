@@ -11,3 +11,4 @@ pub mod Rules
 pub mod Standing
 pub mod Views
 pub mod Walk
+pub mod Limits

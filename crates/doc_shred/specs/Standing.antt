@@ -1,7 +1,8 @@
 -- A builder's open nodes as nodes with texts, by a pool that gives the texts of its numbers (own rule).
-use Rattle.std.specs.Prelude.{ℕ, ◌≡◌, ◌+◌, ◌-◌, ◌^◌, ◌<◌, ◌≤◌, Bool, not, ◌&&◌, true, false, List, [], ◌∷◌, ◌++◌, map, length, take, slice_get, Some, None}
+use Rattle.std.specs.Prelude.{ℕ, ◌≡◌, ◌+◌, ◌-◌, ◌<◌, ◌≤◌, Bool, not, ◌&&◌, true, false, List, [], ◌∷◌, ◌++◌, map, length, take, slice_get, Some, None}
 use Rattle.std.specs.Str.{bytes_eq}
 use Rattle.xq_base.specs.declared.item.TextId.{TextId}
+use Rattle.doc_table.specs.Limits.{size_limit}
 use Rattle.doc_table.specs.Tree.{Tree, Label, OfDocument, OfElement, OfAttribute, OfText, OfComment, OfInstruction, text_in, pair_with}
 use Rattle.doc_table.specs.Axes.{id_eq}
 use Rattle.doc_table.specs.Spine.{Open, Spine, is_text, open_with, rows_in, has_name_in, attributes_open, with_attribute, with_leaf, closed, is_some_open, text_last}
@@ -93,7 +94,7 @@ pub record Walked (Stepped : Texts → Walk → Type 0) (texts : Texts) (names a
 pub record Takes (spine : Spine TextId) : Type 0 where
   pub root : spine.root ≡ None
   pub inside : is_some_open spine.nodes ≡ true
-  pub room : rows_in spine + 2 < 2 ^ 32 - 1
+  pub room : rows_in spine + 2 < size_limit
 
 -- the tag that was read, and what a walk makes of it
 abbrev pub Starts : List ℕ → List ℕ → List Text → List Text → Spine TextId → Spine TextId → Texts → Walk → Type 0
@@ -166,7 +167,7 @@ IsMalformed Reads texts names old bytes = (final : Texts) → IsLater texts fina
 
 -- the builder can take the rows of so many bytes
 abbrev pub HasRoom : Spine TextId → List ℕ → Type 0
-HasRoom spine bytes = rows_in spine + length bytes + 2 < 2 ^ 32 - 1
+HasRoom spine bytes = rows_in spine + length bytes + 2 < size_limit
 
 -- The content of the open elements was read, up to the end tag of the outermost.
 pub record ContentRead (texts : Texts) (names : List Text) (old new : Spine TextId) (bytes rest : List ℕ) : Type 0 where

@@ -1,11 +1,10 @@
 //! How deep a tree is.
 ghost use Rattle.std.specs.Prelude.{◌≡◌, nat_lt};
-ghost use Rattle.doc_shred.specs.Document.{deepest, level_limit};
+ghost use Rattle.doc_shred.specs.Limits.{level_limit};
+ghost use Rattle.doc_shred.specs.Document.{deepest};
 
+use crate::limits::LEVEL_LIMIT;
 use doc_table::{Fragment, Rows};
-
-/// The greatest level that is read (own rule).
-const LEVEL_LIMIT: u32 = 65_535;
 
 /// Whether some row's level passes the limit.
 pub fn is_too_deep(fragment: &Fragment) -> bool

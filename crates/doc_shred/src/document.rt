@@ -1,6 +1,6 @@
 //! Whole documents: the prolog, the root element, and what follows it.
-ghost use Rattle.std.specs.Prelude.{◌≡◌, ◌<◌, ◌+◌, ◌-◌, ◌^◌, [], true, false, length, IfOk, IfErr, OnOk, Err, None};
-ghost use Rattle.doc_table.specs.Spine.{rows_in, opened, empty_spine};
+ghost use Rattle.std.specs.Prelude.{◌≡◌, ◌<◌, ◌+◌, ◌-◌, [], false, length, IfOk, IfErr, OnOk, Err, None};
+ghost use Rattle.doc_table.specs.Spine.{opened, empty_spine};
 ghost use Rattle.doc_table.specs.Tree.{OfDocument};
 ghost use Rattle.doc_shred.specs.declared.fault.Fault.TheVariants.{Malformed};
 ghost use Rattle.doc_shred.specs.Reading as r;
@@ -8,6 +8,7 @@ ghost use Rattle.doc_shred.specs.Standing.{IsLater, IsState, HasRoom, MiscAdded,
 ghost use Rattle.doc_shred.specs.Refusals.{TypeRead, TypeRefused, PrologRead, PrologRefused, DocumentRead, DocumentRefused};
 ghost use Rattle.doc_shred.specs.Views.{lent_of};
 ghost use Rattle.doc_shred.specs.Walk as w;
+ghost use Rattle.doc_table.specs.Limits.{size_limit};
 
 use crate::bytes::{Class, comes, comes_word, split_run};
 use crate::fault::Fault;
@@ -152,7 +153,7 @@ fn prolog<'a>(
     text: &'a [u8],
 ) -> Result<&'a [u8], ShredFault>
     requires empty { builder.old ≡ opened OfDocument empty_spine }
-    requires room { length text.now + 3 < 2 ^ 32 - 1 }
+    requires room { length text.now + 3 < size_limit }
     ensures later { IsLater pool.old pool.new }
     ensures read { IfOk result (λ rest. PrologRead pool.new builder.new text.now rest.now) }
     ensures refused { IfErr result (PrologRefused text.now) }
@@ -176,7 +177,7 @@ pub fn document(
     text: &[u8],
 ) -> Result<(), ShredFault>
     requires empty { builder.old ≡ empty_spine }
-    requires room { length text.now + 3 < 2 ^ 32 - 1 }
+    requires room { length text.now + 3 < size_limit }
     ensures later { IsLater pool.old pool.new }
     ensures read { OnOk result (DocumentRead pool.new builder.new text.now) }
     ensures refused { IfErr result (DocumentRefused text.now) }

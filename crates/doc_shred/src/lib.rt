@@ -9,6 +9,7 @@ mod depth;
 mod document;
 mod fault;
 mod laws;
+mod limits;
 mod lines;
 mod markup;
 mod names;
@@ -23,5 +24,6 @@ mod texts;
 mod values;
 
 pub use laws::one_tree;
+pub use limits::{DOCUMENT_LIMIT, LEVEL_LIMIT};
 pub use refusal::ShredFault;
 pub use shredder::shred;

@@ -2,8 +2,12 @@
 ghost use Rattle.std.specs.Prelude.{◌≡◌, ◌≤◌, true, IfOk, Err, length};
 ghost use Rattle.doc_table.specs.Tree.{Tree, with_texts};
 ghost use Rattle.doc_table.specs.Given.{tree_given};
+ghost use Rattle.doc_table.specs.Axes.{id_eq};
+ghost use Rattle.doc_table.specs.Spine.{is_empty_id};
+ghost use Rattle.doc_table.specs.DocumentTrees.{is_document_tree};
 ghost use Rattle.doc_shred.specs.declared.refusal.ShredFault.TheVariants.{NotWellFormed, Unsupported, TooDeep};
 ghost use Rattle.doc_shred.specs.Content.{Text};
+ghost use Rattle.doc_shred.specs.Limits.{document_limit};
 ghost use Rattle.doc_shred.specs.Document.{IsDocument, IsUnsupported, IsTooDeep};
 ghost use Rattle.doc_shred.specs.Standing.{IsLater};
 
@@ -24,7 +28,7 @@ use xq_base::Pool;
 /// where the bytes are no document; else `TooDeep` where a node's level passes 65,535; and
 /// `NoMemory`. After a refusal the pool may have more texts.
 pub fn shred(alloc: Global, bytes: &[u8], pool: &mut Pool) -> Result<Fragment, ShredFault>
-    requires { length bytes.now ≤ 67_108_864 }
+    requires { length bytes.now ≤ document_limit }
 
     // Earlier numbers keep their texts.
     ensures later { IsLater pool.old pool.new }
@@ -33,6 +37,9 @@ pub fn shred(alloc: Global, bytes: &[u8], pool: &mut Pool) -> Result<Fragment, S
     ensures tree { IfOk result (λ fragment. IsDocument bytes.now (with_texts pool.new fragment)) }
     ensures level { IfOk result (λ fragment. ¬ IsTooDeep (with_texts pool.new fragment)) }
     ensures supported { IfOk result (λ _. ¬ IsUnsupported bytes.now) }
+
+    // One element and no text stand among the children of the document node.
+    ensures document { IfOk result (λ fragment. is_document_tree id_eq is_empty_id fragment ≡ true) }
 
     // The pool gave the numbers of its texts.
     ensures given { IfOk result (λ fragment. tree_given (length pool.new) fragment ≡ true) }
@@ -51,6 +58,7 @@ pub fn shred(alloc: Global, bytes: &[u8], pool: &mut Pool) -> Result<Fragment, S
     }
     builder.close();
     let fragment = builder.finish();
+    fragment.validity();
     if is_too_deep(&fragment) {
         return Err(ShredFault::TooDeep);
     }
@@ -60,12 +68,13 @@ pub fn shred(alloc: Global, bytes: &[u8], pool: &mut Pool) -> Result<Fragment, S
 #[cfg(test)]
 mod tests {
     use super::*;
+    use crate::limits::{DOCUMENT_LIMIT, LEVEL_LIMIT};
     use std::test::Fail;
     use xq_base::HashKeys;
 
     /// Whether a document is read, and else why not.
     fn outcome(alloc: Global, text: &[u8]) -> Result<u32, ShredFault> {
-        if text.len() > 67_108_864 {
+        if text.len() > DOCUMENT_LIMIT {
             return Err(ShredFault::NoMemory);
         }
         let mut pool = Pool::new(alloc, HashKeys::new(1, 2));
@@ -146,9 +155,9 @@ mod tests {
 
     #[test]
     fn the_last_level_is_read_and_the_next_is_too_deep(rt: HostRuntime) -> Result<(), Fail> {
-        let last = nested(rt.alloc(), 65_535)?;
-        assert_eq!(rt; outcome(rt.alloc(), last.as_slice()), Ok(65_536));
-        let next = nested(rt.alloc(), 65_536)?;
+        let last = nested(rt.alloc(), LEVEL_LIMIT)?;
+        assert_eq!(rt; outcome(rt.alloc(), last.as_slice()), Ok(LEVEL_LIMIT + 1));
+        let next = nested(rt.alloc(), LEVEL_LIMIT + 1)?;
         assert_eq!(rt;
             outcome(rt.alloc(), next.as_slice()),
             Err(ShredFault::TooDeep)

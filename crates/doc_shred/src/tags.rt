@@ -1,5 +1,5 @@
 //! Start tags: an element is opened, and its attributes are added.
-ghost use Rattle.std.specs.Prelude.{◌≡◌, ◌<◌, ◌≤◌, ◌+◌, ◌-◌, ◌^◌, [], true, length, IfOk, OnOk, Err, None, ◌⊎◌};
+ghost use Rattle.std.specs.Prelude.{◌≡◌, ◌<◌, ◌+◌, ◌-◌, [], true, length, IfOk, OnOk, Err, None, ◌⊎◌};
 ghost use Rattle.std.specs.Cow.{cow_str_bytes};
 ghost use Rattle.xq_base.specs.Pool.{NoRepeats};
 ghost use Rattle.doc_table.specs.Spine.{takes_attributes, attributes_open};
@@ -8,6 +8,7 @@ ghost use Rattle.doc_shred.specs.Outcomes.{IsRead};
 ghost use Rattle.doc_shred.specs.Reading as r;
 ghost use Rattle.doc_shred.specs.Standing.{IsLater, AttributeAdded, AttributeTwice, AttributesAdded, Walked, Takes, Starts, name_numbers};
 ghost use Rattle.doc_shred.specs.Walk as w;
+ghost use Rattle.doc_table.specs.Limits.{size_limit};
 
 use crate::attributes::NameNumbers;
 use crate::bytes::strip;
@@ -51,7 +52,7 @@ fn add_attribute<'a>(
 ) -> Result<&'a [u8], Fault>
     requires element { takes_attributes builder.old.nodes ≡ true }
     requires names { names.old ≡ name_numbers builder.old.nodes }
-    requires room { length (attributes_open builder.old.nodes) + 1 < 2 ^ 32 - 1 }
+    requires room { length (attributes_open builder.old.nodes) + 1 < size_limit }
     ensures later { IsLater pool.old pool.new }
     ensures added { IfOk result (λ rest. AttributeAdded pool.new builder.old builder.new bytes.now rest.now) }
     ensures different { IfOk result (λ _. NoRepeats pool.new) }
@@ -80,7 +81,7 @@ fn add_attributes<'a>(
 ) -> Result<&'a [u8], Fault>
     requires element { takes_attributes builder.old.nodes ≡ true }
     requires none { attributes_open builder.old.nodes ≡ [] }
-    requires room { length bytes.now + 1 < 2 ^ 32 - 1 }
+    requires room { length bytes.now + 1 < size_limit }
     ensures later { IsLater pool.old pool.new }
     ensures added { IfOk result (λ rest. AttributesAdded pool.new builder.old builder.new bytes.now rest.now) }
     ensures refused { result ≡ Err Malformed → w.attributes bytes.now ≡ None }
@@ -109,7 +110,7 @@ pub fn start_tag<'a>(
     bytes: &'a [u8],
 ) -> Result<&'a [u8], Fault>
     requires takes { Takes builder.old }
-    requires room { length bytes.now + 1 < 2 ^ 32 - 1 }
+    requires room { length bytes.now + 1 < size_limit }
     ensures later { IsLater pool.old pool.new }
     ensures started { IfOk result (λ rest. Walked (Starts bytes.now rest.now names.old names.new builder.old builder.new) pool.new names.old names.new builder.old builder.new) }
     ensures refused { result ≡ Err Malformed → r.start bytes.now ≡ None }

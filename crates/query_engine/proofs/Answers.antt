@@ -1,44 +1,48 @@
--- What the evaluator's outcome says of a query's answer.
-use Rattle.std.proofs.Common.{◌≡◌, ℕ, List, [], Some, None, Ok, Err, refl, sym, subst}
+-- What the parts of a compilation say of it.
+use Rattle.std.proofs.Common.{◌≡◌, ℕ, ◌≤◌, List, [], ◌∷◌, length, map, true, false, Some, None, Result, Ok, refl, sym, ap, ◌∙◌, subst, arith}
 use Rattle.xq_base.specs.declared.code.Code.TheVariants as c
-use Rattle.core_meaning.specs.Items.{Item}
-use Rattle.core_meaning.specs.Expr.{Expr}
-use Rattle.core_meaning.specs.Meaning.{no_variables, val}
-use Rattle.core_meaning.specs.Failures.{fails}
-use Rattle.core_meaning.specs.Outcome.{Failing, moved, Agrees, outcome, first_failing}
-use Rattle.core_meaning.proofs.Agreeing.{outcome_agrees}
-use Rattle.query_engine.specs.declared.tree.Single.{Single}
+use Rattle.doc_table.specs.OtherTexts.{Grows}
+use Rattle.query_engine.proofs.Later.{later_self, later_later}
+use Rattle.core_meaning.specs.declared.node.Core.{Core}
+use Rattle.core_meaning.specs.Erasure.{Texts, core_of, cores_of}
+use Rattle.core_meaning.specs.PlainCore.{PlainCore}
+use Rattle.query_engine.specs.declared.engine.CompileFault.{CompileFault}
 use Rattle.query_engine.specs.declared.fault.ParseFault.TheVariants.{Syntax, TooDeep}
-use Rattle.query_engine.specs.declared.evaluate.Failed.{Failed}
-use Rattle.query_engine.specs.Evaluating.{failing}
+use Rattle.query_engine.specs.declared.tree.Single.{Single}
 use Rattle.query_engine.specs.Query.{IsQuery, Faults}
-use Rattle.query_engine.specs.Calls.{IsCall}
 use Rattle.query_engine.specs.Scope.{unbound, least_place}
 use Rattle.query_engine.specs.Normal.{norm}
-use Rattle.query_engine.specs.Serial.{serial}
-use Rattle.query_engine.specs.Answering.{IsRefused, no_query, no_binding, IsAccepted, IsAnswer, IsFirst}
+use Rattle.query_engine.specs.Nested.{IsRead}
+use Rattle.query_engine.specs.Evaluated.{is_name, is_evaluated, CanEvaluate}
+use Rattle.query_engine.specs.Answering.{IsRefused, no_query, no_binding, no_form, IsAccepted, Compiles}
 use Rattle.query_engine.proofs.Places.{no_least}
 
-value_is : (e : Expr) (v : List Item) → outcome e no_variables ≡ Ok v → (val e no_variables [] ≡ Some v) × (fails 0 e no_variables [] ≡ [])
-value_is e v p = subst (λ o. Agrees 0 o (val e no_variables []) (fails 0 e no_variables [])) p (outcome_agrees e no_variables 0 [])
+pub unread_syntax : (text : List ℕ) → Faults text Syntax → IsRefused text c.XPST0003 None
+unread_syntax text f = no_query f.0
 
-first_is : (e : Expr) (f : Failing) → outcome e no_variables ≡ Err f → (val e no_variables [] ≡ None) × (first_failing e no_variables [] ≡ Some (moved 0 f))
-first_is e f p = subst (λ o. Agrees 0 o (val e no_variables []) (fails 0 e no_variables [])) p (outcome_agrees e no_variables 0 [])
-
-pub answered : (e : Expr) (v : List Item) (bytes : List ℕ) → outcome e no_variables ≡ Ok v → bytes ≡ serial v → IsAnswer e bytes
-answered e v bytes p q = record { items = v; value = (value_is e v p).0; calm = (value_is e v p).1; bytes_are = q }
-
-pub unanswered : (e : Expr) (f : Failed) → outcome e no_variables ≡ Err (failing f) → IsFirst e f.code (Some f.offset)
-unanswered e f p = record { failing = moved 0 (failing f); first = (first_is e (failing f) p).1; code_is = refl; place_is = refl }
-
-pub unread_syntax : (text : List ℕ) → ((place : ℕ) (name : List ℕ) → IsCall text place name → ⊥) → Faults text Syntax → IsRefused text c.XPST0003 None
-unread_syntax text n f = no_query f.0 n
-
-pub unread_deep : (text : List ℕ) (place : ℕ) → ((place : ℕ) (name : List ℕ) → IsCall text place name → ⊥) → Faults text (TooDeep place) → IsRefused text c.XPST0003 None
-unread_deep text place n f = no_query f.1 n
+pub unread_deep : (text : List ℕ) (place : ℕ) → Faults text (TooDeep place) → IsRefused text c.XPST0003 None
+unread_deep text place f = no_query f.1
 
 pub refused_scope : (text : List ℕ) (tree : List Single) (place : ℕ) → IsQuery text tree → Some place ≡ least_place (unbound tree) → IsRefused text c.XPST0008 (Some place)
 refused_scope text tree place q p = no_binding tree place q (sym p)
 
-pub accepted : (text : List ℕ) (tree : List Single) (e : Expr) → IsQuery text tree → None ≡ least_place (unbound tree) → e ≡ norm tree → IsAccepted text e
-accepted text tree e q p n = record { tree = tree; query = q; bound = no_least (unbound tree) (sym p); core = n }
+pub refused_form : (text : List ℕ) (texts : Texts) (tree : List Single) (core : Core) → IsQuery text tree → unbound tree ≡ [] → IsRead texts core (norm tree) → false ≡ is_evaluated (core_of texts core) → IsRefused text c.PFRC0004 None
+refused_form text texts tree core q bound read f = no_form tree q bound (ap is_evaluated (sym (read texts (later_self texts))) ∙ sym f)
+
+pub accepted : (text : List ℕ) (texts : Texts) (tree : List Single) (core : Core) → IsQuery text tree → unbound tree ≡ [] → IsRead texts core (norm tree) → true ≡ is_evaluated (core_of texts core) → Compiles text texts (Ok core)
+accepted text texts tree core q bound read t later k =
+    let forms : is_evaluated (core_of later core) ≡ true = ap is_evaluated (read later k ∙ sym (read texts (later_self texts))) ∙ sym t in (
+      record { tree = tree; query = q; bound = bound; core_is = read later k; evaluated = forms },
+      record { forms = forms; fixed = λ last l. read last (later_later texts later last k l) ∙ sym (read later k) },
+    )
+
+-- the tree's Core is the text's
+pub compiled : (text : List ℕ) (texts : Texts) (result : Result Core CompileFault) (query a b : List Single) → ((text : List ℕ) → IsQuery text b → unbound b ≡ [] → Compiles text texts result) → IsQuery text query → a ≡ query → b ≡ query → None ≡ least_place (unbound a) → Compiles text texts result
+compiled text texts result query a b h q p r e =
+    h text (subst (IsQuery text) (sym r) q) (ap unbound (r ∙ sym p) ∙ no_least (unbound a) (sym e))
+
+-- a name is one argument
+pub no_name : (f : Core → PlainCore) (xs : List Core) → 2 ≤ length xs → is_name (cores_of (map f xs)) ≡ false
+no_name f [] l = absurd (omega arith)
+no_name f (x ∷ []) l = absurd (omega arith)
+no_name f (x ∷ y ∷ xs) l = refl

@@ -1,13 +1,12 @@
 pub mod Answers
 pub mod Bools
-pub mod Calls
 pub mod Chains
-pub mod Documents
 pub mod Drops
 pub mod Exact
 pub mod Follow
-pub mod Joined
+pub mod Later
 pub mod Laws
+pub mod Literals
 pub mod OneMeaning
 pub mod Past
 pub mod Places
@@ -15,6 +14,5 @@ pub mod Productions
 pub mod Query
 pub mod Short
 pub mod Steps
-pub mod Turning
 pub mod Turns
 pub mod Unfolds

@@ -1,16 +1,19 @@
 -- Each rule of the reading is exact for its rule of the grammar.
-use Rattle.std.proofs.Common.{◌≡◌, ℕ, zero, suc, ◌<◌, Bool, true, false, ◌||◌, ◌==◌, List, [], ◌∷◌, ◌⊎◌, inl, inr, length, refl, subst, arith}
+use Rattle.std.proofs.Common.{◌≡◌, ℕ, zero, suc, ◌+◌, ◌-◌, ◌<◌, Bool, true, false, ◌||◌, ◌==◌, List, [], ◌∷◌, ◌⊎◌, inl, inr, length, refl, subst, arith}
 use Rattle.query_engine.specs.declared.token.Kind.{Kind}
 use Rattle.query_engine.specs.declared.token.Kind.TheVariants as k
 use Rattle.query_engine.specs.declared.tree.Single.{Single}
 use Rattle.query_engine.specs.Tokens.{token}
+use Rattle.query_engine.specs.Literals.{is_literal}
 use Rattle.query_engine.specs.Look.{among, kind_of, code, is_kind, is_word}
-use Rattle.query_engine.specs.Words.{word_for, word_in, word_return}
+use Rattle.query_engine.specs.Bytes.{start, is_literal_char}
+use Rattle.query_engine.specs.Words.{word_for, word_in, word_return, word_doc}
 use Rattle.query_engine.specs.Rules.{Rule, ◌▷◌}
 use Rattle.query_engine.specs.Grammar as g
 use Rattle.query_engine.specs.Reading as r
 use Rattle.query_engine.specs.Parsers.{Parser}
-use Rattle.query_engine.proofs.Follow.{differs, word_is_name, no_word, sign_past, end_kind}
+use Rattle.query_engine.proofs.Follow.{differs, word_is_name, no_word, other_word, sign_past, end_kind}
+use Rattle.query_engine.proofs.Laws.{start_ge, ends_ge}
 use Rattle.query_engine.proofs.Exact.{Exact, then_exact, gives_exact, told_exact, where_exact, take_exact, cuts_exact, or_exact, many_exact, exact_on, Takes, Strict, then_strict, take_strict, Among, KindIs, only_kind, or_kind, not_among}
 
 abbrev pub Any : ℕ → Type 0
@@ -32,6 +35,9 @@ module _ (text : List ℕ) where
 
   digits_exact : {Stop : ℕ → Type 0} → Exact (g.digits text) (λ at. is_kind text k.Integer at ≡ true) Stop (r.digits text)
   digits_exact = take_exact (λ at e. let s = (sign_past text k.Integer at refl e).some in omega (arith, s))
+
+  literal_exact : {Stop : ℕ → Type 0} → Exact (g.literal text) (λ at. is_literal text at ≡ true) Stop (r.literal text)
+  literal_exact = take_exact (λ at e. omega (arith, start_ge text at, ends_ge is_literal_char text (length text - (start text at + 1)) (start text at + 1)))
 
   -- the kind of the token that comes next
   abbrev next : ℕ → ℕ
@@ -103,12 +109,23 @@ module _ (text : List ℕ) where
     unfolding g.paren r.paren
     paren_exact = then_exact (told_exact {Stop = KindIs next 5}) (λ o. then_exact (then_exact (sign_exact {Stop = Any} k.Open refl) (λ _. items_exact) (λ at b. tt)) (λ n. gives_exact {Stop = Any}) (λ at b. tt)) (λ at b. b)
 
+    abbrev IsDoc : ℕ → Type 0
+    IsDoc at = is_word text word_doc at ≡ true
+
+    pub call_exact : Exact (g.call text single) IsDoc Any (r.call text inner)
+    unfolding g.call r.call
+    call_exact = then_exact (told_exact {Stop = IsDoc}) (λ o.
+        then_exact (then_exact (then_exact (word_exact {Stop = Any} word_doc) (λ _. sign_exact {Stop = Any} k.Open refl) (λ at b. tt)) (λ _. told_exact {Stop = Any}) (λ at b. tt))
+        (λ q. then_exact (literal_exact {Stop = Any}) (λ name. then_exact (sign_exact {Stop = Any} k.Close refl) (λ _. gives_exact {Stop = Any}) (λ at b. tt)) (λ at b. tt)) (λ at b. tt)) (λ at b. b)
+
     abbrev PrimBegins : ℕ → Type 0
-    PrimBegins = Among next (2 ∷ 4 ∷ 5 ∷ [])
+    PrimBegins at = IsDoc at ⊎ Among next (2 ∷ 4 ∷ 5 ∷ []) at
 
     pub prim_exact : Exact (g.prim text single) PrimBegins Any (r.prim text inner)
     unfolding g.prim r.prim
-    prim_exact = or_kind next 2 (4 ∷ 5 ∷ []) refl integer_exact (or_kind next 4 (5 ∷ []) refl reference_exact (only_kind next 5 paren_exact))
+    prim_exact = or_exact (is_word text word_doc) call_exact
+        (or_kind next 2 (4 ∷ 5 ∷ []) refl integer_exact (or_kind next 4 (5 ∷ []) refl reference_exact (only_kind next 5 paren_exact)))
+        (λ at b. b) (λ at b. no_word text word_doc at (not_among (2 ∷ 4 ∷ 5 ∷ []) (next at) 1 b refl))
 
     next_prim_exact : Exact (g.sign text k.Plus ▷ g.prim text single) (λ at. is_kind text k.Plus at ≡ true) Any (r.next_prim text inner)
     unfolding r.next_prim
@@ -153,21 +170,27 @@ module _ (text : List ℕ) where
     pub level_exact : Exact (g.level text single) SingleBegins SingleEnd (r.level text inner)
     unfolding g.level r.level
     level_exact = exact_on (or_exact (is_word text word_for) for_exact (then_exact sum_exact (λ o. gives_exact {Stop = SingleEnd}) (λ at b. b))
-        (λ at b. b) (λ at b. no_word text word_for at (not_among (2 ∷ 4 ∷ 5 ∷ []) (next at) 1 b refl)))
+        (λ at b. b) leaves)
         begins (λ at h. h)
       where
+        leaves : (at : ℕ) → PrimBegins at → is_word text word_for at ≡ false
+        leaves at (inl d) = other_word text word_doc word_for at refl d
+        leaves at (inr b) = no_word text word_for at (not_among (2 ∷ 4 ∷ 5 ∷ []) (next at) 1 b refl)
+
         begins : (at : ℕ) → IsFor at ⊎ PrimBegins at → SingleBegins at
         begins at (inl b) = differs (next at) 1 6 (word_is_name text word_for at b) refl
-        begins at (inr b) = not_among (2 ∷ 4 ∷ 5 ∷ []) (next at) 6 b refl
+        begins at (inr (inl d)) = differs (next at) 1 6 (word_is_name text word_doc at d) refl
+        begins at (inr (inr b)) = not_among (2 ∷ 4 ∷ 5 ∷ []) (next at) 6 b refl
 
   -- the knot
   single_zero : Exact (g.single text 0) SingleBegins SingleEnd (r.single text 0)
   unfolding g.single r.single
-  single_zero = exact_on (cuts_exact {Stop = SingleEnd}) (λ at b. begins at (is_word text word_for at) refl b) (λ at h. h)
+  single_zero = exact_on (cuts_exact {Stop = SingleEnd}) (λ at b. begins at (is_word text word_for at) (is_word text word_doc at) refl refl b) (λ at h. h)
     where
-      begins : (at : ℕ) (c : Bool) → is_word text word_for at ≡ c → g.begins_single text at ≡ true → SingleBegins at
-      begins at true q b = differs (next at) 1 6 (word_is_name text word_for at q) refl
-      begins at false q b = not_among (2 ∷ 4 ∷ 5 ∷ []) (next at) 6 (subst (λ c. (c || among (2 ∷ 4 ∷ 5 ∷ []) (next at)) ≡ true) q b) refl
+      begins : (at : ℕ) (c d : Bool) → is_word text word_for at ≡ c → is_word text word_doc at ≡ d → (c || (d || among (2 ∷ 4 ∷ 5 ∷ []) (next at))) ≡ true → SingleBegins at
+      begins at true d q p b = differs (next at) 1 6 (word_is_name text word_for at q) refl
+      begins at false true q p b = differs (next at) 1 6 (word_is_name text word_doc at p) refl
+      begins at false false q p b = not_among (2 ∷ 4 ∷ 5 ∷ []) (next at) 6 b refl
 
   single_next : (d : ℕ) → Exact (g.single text d) SingleBegins SingleEnd (r.single text d) → Exact (g.single text (suc d)) SingleBegins SingleEnd (r.single text (suc d))
   unfolding g.single r.single

@@ -1,7 +1,7 @@
 -- Bytes of a query and runs of bytes. A place is an offset into the query.
 use Rattle.std.specs.Prelude.{ℕ, zero, suc, ◌+◌, ◌-◌, Bool, true, false, not, ◌&&◌, ◌||◌, ◌==◌, List, [], ◌∷◌, length, get_or, nat_le, if◌then◌else◌}
 use Rattle.query_engine.specs.declared.bytes.Class.{Class}
-use Rattle.query_engine.specs.declared.bytes.Class.TheVariants.{White, Digit, Letter, NameChar, CallChar}
+use Rattle.query_engine.specs.declared.bytes.Class.TheVariants.{White, Digit, Letter, NameChar, LiteralChar}
 
 -- the byte at a place, 0 at the end
 abbrev pub byte : List ℕ → ℕ → ℕ
@@ -22,15 +22,15 @@ abbrev pub is_name_char : ℕ → Bool
 is_name_char b = (nat_le 97 b && nat_le b 122) || (nat_le 48 b && nat_le b 57)
 
 -- blank to tilde, but the quote and the ampersand (own rule)
-abbrev pub is_call_char : ℕ → Bool
-is_call_char b = (nat_le 32 b && nat_le b 126) && (not (b == 34) && not (b == 38))
+abbrev pub is_literal_char : ℕ → Bool
+is_literal_char b = (nat_le 32 b && nat_le b 126) && (not (b == 34) && not (b == 38))
 
 abbrev pub class_test : Class → ℕ → Bool
 class_test White = is_white
 class_test Digit = is_digit
 class_test Letter = is_letter
 class_test NameChar = is_name_char
-class_test CallChar = is_call_char
+class_test LiteralChar = is_literal_char
 
 -- the first place from here on, of so many, that is none of these
 unfoldable pub ends : (ℕ → Bool) → List ℕ → ℕ → ℕ → ℕ

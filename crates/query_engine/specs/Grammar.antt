@@ -13,7 +13,8 @@ use Rattle.query_engine.specs.declared.tree.Primary.TheVariants as prim_
 use Rattle.query_engine.specs.Bytes.{start}
 use Rattle.query_engine.specs.Tokens.{token}
 use Rattle.query_engine.specs.Look.{among, code, kind_of, is_kind, end_at, text_at, is_word, number_at}
-use Rattle.query_engine.specs.Words.{word_for, word_in, word_return}
+use Rattle.query_engine.specs.Literals.{is_literal, literal_at, literal_end}
+use Rattle.query_engine.specs.Words.{word_for, word_in, word_return, word_doc}
 use Rattle.query_engine.specs.Rules.{Rule, deep, ◌▷=◌, ◌▷◌, ◌or◌, gives, many, where_, stands, told, cut_where}
 
 -- how many levels of expressions may nest (own rule)
@@ -34,13 +35,16 @@ module _ (text : List ℕ) where
   abbrev pub digits : Rule ℤ
   digits = stands (is_kind text k.Integer) (number_at text) (end_at text)
 
+  abbrev pub literal : Rule (List ℕ)
+  literal = stands (is_literal text) (literal_at text) (literal_end text)
+
   -- the place of the token that comes next
   abbrev pub place : Rule ℕ
   place = told (start text)
 
   -- the token can begin an expression
   abbrev pub begins_single : ℕ → Bool
-  begins_single at = is_word text word_for at || among (code k.Integer ∷ code k.Dollar ∷ code k.Open ∷ []) (kind_of (token text at))
+  begins_single at = is_word text word_for at || (is_word text word_doc at || among (code k.Integer ∷ code k.Dollar ∷ code k.Open ∷ []) (kind_of (token text at)))
 
   module _ (single : Rule Single) where
     -- Expr ::= ExprSingle ("," ExprSingle)*
@@ -51,7 +55,10 @@ module _ (text : List ℕ) where
     unfoldable pub items : Rule (List Single)
     items = sign k.Close ▷ gives [] or (singles ▷= λ as_. sign k.Close ▷ gives as_)
 
-    -- Primary ::= Digits | "$" Name | "(" Items
+    -- Primary ::= "doc" "(" Literal ")" | Digits | "$" Name | "(" Items
+    unfoldable pub call : Rule Primary
+    call = place ▷= λ o. word word_doc ▷ sign k.Open ▷ place ▷= λ q. literal ▷= λ name. sign k.Close ▷ gives (prim_.Doc (record { offset = o; quote = q; name = name }))
+
     unfoldable pub integer : Rule Primary
     integer = place ▷= λ o. digits ▷= λ n. gives (prim_.Integer o n)
 
@@ -66,7 +73,7 @@ module _ (text : List ℕ) where
     paren = place ▷= λ o. sign k.Open ▷ items ▷= λ as_. gives (prim_.Paren o as_)
 
     unfoldable pub prim : Rule Primary
-    prim = integer or (reference or paren)
+    prim = call or (integer or (reference or paren))
 
     -- Sum ::= Primary ("+" Primary)*
     unfoldable pub sum : Rule Sum

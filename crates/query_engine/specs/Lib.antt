@@ -1,9 +1,8 @@
 pub mod Answering
 pub mod Bytes
-pub mod Calls
-pub mod Documents
-pub mod Evaluating
+pub mod Evaluated
 pub mod Grammar
+pub mod Literals
 pub mod Look
 pub mod Nested
 pub mod Normal
@@ -13,7 +12,5 @@ pub mod Query
 pub mod Reading
 pub mod Rules
 pub mod Scope
-pub mod Serial
-pub mod Tails
 pub mod Tokens
 pub mod Words

@@ -1,10 +1,11 @@
 -- The Core of a query (Formal Semantics, sections 4.2 to 4.8). A variable is named by the place of its binding, so that all
 -- differ; the variable of the items' places, which no query here refers to, by the place after it.
 use Rattle.std.specs.Prelude.{ℕ, ◌+◌, List, [], ◌∷◌, map, Option, Some, None}
-use Rattle.xq_base.specs.declared.fun.Fun.TheVariants.{Add}
-use Rattle.core_meaning.specs.Items.{Int}
-use Rattle.core_meaning.specs.Expr.{Expr, Lit, Empty, Var, Seq, For, Call, no_more, one_more}
+use Rattle.xq_base.specs.declared.fun.Fun.TheVariants as f
+use Rattle.xq_base.specs.Atoms.{IntAtom, TextAtom}
+use Rattle.core_meaning.specs.PlainCore.{PlainCore, Lit, Empty, Var, Seq, For, Call, no_cores, one_core}
 use Rattle.query_engine.specs.declared.tree.Name.{Name}
+use Rattle.query_engine.specs.declared.tree.Call.{Call as Called}
 use Rattle.query_engine.specs.declared.tree.Primary.{Primary}
 use Rattle.query_engine.specs.declared.tree.Single.{Single}
 use Rattle.query_engine.specs.declared.tree.Bind.{Bind}
@@ -16,44 +17,48 @@ use Rattle.query_engine.specs.Scope.{Scope, visible}
 
 -- in a scope, the Core
 abbrev pub Norm : Type 0
-Norm = Scope → Expr
+Norm = Scope → PlainCore
 
 pub record NormBind : Type 0 where
   pub var : Name
   pub source : Norm
 
 -- a reference; one without a binding is refused before
-abbrev pub reference : Option ℕ → Expr
-reference (Some place) = Var place
-reference None = Empty
+abbrev pub reference : ℕ → Option ℕ → PlainCore
+reference place (Some binding) = Var place binding
+reference place None = Empty place
 
-abbrev pub chain : Expr → List Expr → Expr
-chain e [] = e
-chain e (f ∷ fs) = chain (Seq e f) fs
+abbrev pub chain : ℕ → PlainCore → List PlainCore → PlainCore
+chain place e [] = e
+chain place e (f ∷ fs) = chain place (Seq place e f) fs
 
 -- one after the other, to the left
-abbrev pub sequence : List Expr → Expr
-sequence [] = Empty
-sequence (e ∷ es) = chain e es
+abbrev pub sequence : ℕ → List PlainCore → PlainCore
+sequence place [] = Empty place
+sequence place (e ∷ es) = chain place e es
 
 -- a sum, to the left; each has the place of the first operand
-abbrev pub added : ℕ → Expr → List Expr → Expr
+abbrev pub added : ℕ → PlainCore → List PlainCore → PlainCore
 added place e [] = e
-added place e (f ∷ fs) = added place (Call place Add (one_more e (one_more f no_more))) fs
+added place e (x ∷ xs) = added place (Call place f.Add (one_core e (one_core x no_cores))) xs
 
-abbrev pub at_scope : List Norm → Scope → List Expr
+abbrev pub at_scope : List Norm → Scope → List PlainCore
 at_scope [] s = []
 at_scope (f ∷ fs) s = f s ∷ at_scope fs s
 
+abbrev pub document : Called → PlainCore
+document call = Call call.offset f.Doc (one_core (Lit call.quote (TextAtom call.name)) no_cores)
+
 abbrev pub primary_norm : Primary-F Norm Norm NormBind Norm → Norm
-primary_norm (o.Integer n z) s = Lit (Int z)
-primary_norm (o.Var x) s = reference (visible s x.text)
-primary_norm (o.Paren n es) s = sequence (at_scope es s)
+primary_norm (o.Integer n z) s = Lit n (IntAtom z)
+primary_norm (o.Var x) s = reference x.offset (visible s x.text)
+primary_norm (o.Paren n es) s = sequence n (at_scope es s)
+primary_norm (o.Doc call) s = document call
 
 -- a loop for each binding, the later inside the earlier
 abbrev pub loops : List NormBind → Norm → Norm
 loops [] body s = body s
-loops (b ∷ bs) body s = For b.var.offset (b.var.offset + 1) (b.source s) (loops bs body (b.var ∷ s))
+loops (b ∷ bs) body s = For b.var.offset b.var.offset (b.var.offset + 1) (b.source s) (loops bs body (b.var ∷ s))
 
 abbrev pub single_norm : Single-F Norm Norm NormBind Norm → Norm
 single_norm (o.For n bs body) s = loops bs body s
@@ -77,5 +82,5 @@ norm_bind = fold-Bind Norm Norm NormBind Norm primary_norm single_norm bind_norm
 abbrev pub norm_sum : Sum → Norm
 norm_sum = fold-Sum Norm Norm NormBind Norm primary_norm single_norm bind_norm sum_norm
 
-abbrev pub norm : List Single → Expr
-norm es = sequence (at_scope (map norm_single es) [])
+abbrev pub norm : List Single → PlainCore
+norm es = sequence 0 (at_scope (map norm_single es) [])

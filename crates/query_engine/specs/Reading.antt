@@ -11,7 +11,8 @@ use Rattle.query_engine.specs.declared.tree.Primary.{Primary}
 use Rattle.query_engine.specs.declared.tree.Primary.TheVariants as prim_
 use Rattle.query_engine.specs.Bytes.{start}
 use Rattle.query_engine.specs.Look.{is_kind, end_at, text_at, is_word, number_at}
-use Rattle.query_engine.specs.Words.{word_for, word_in, word_return}
+use Rattle.query_engine.specs.Literals.{is_literal, literal_at, literal_end}
+use Rattle.query_engine.specs.Words.{word_for, word_in, word_return, word_doc}
 use Rattle.query_engine.specs.Rules.{deep}
 use Rattle.query_engine.specs.Grammar.{begins_single, max_level}
 use Rattle.query_engine.specs.Parsers.{Parser, ◌>>=◌, ◌>>◌, give, tell, choose, needs, take_, cuts, many_from}
@@ -28,6 +29,9 @@ module _ (text : List ℕ) where
 
   abbrev pub digits : Parser ℤ
   digits = take_ (is_kind text k.Integer) (number_at text) (end_at text)
+
+  abbrev pub literal : Parser (List ℕ)
+  literal = take_ (is_literal text) (literal_at text) (literal_end text)
 
   abbrev pub place : ℕ → ℕ
   place = start text
@@ -64,8 +68,11 @@ module _ (text : List ℕ) where
     unfoldable pub paren : Parser Primary
     paren = tell (start text) >>= λ o. sign k.Open >> items >>= λ as_. give (prim_.Paren o as_)
 
+    unfoldable pub call : Parser Primary
+    call = tell (start text) >>= λ o. word word_doc >> sign k.Open >> tell (start text) >>= λ q. literal >>= λ name. sign k.Close >> give (prim_.Doc (record { offset = o; quote = q; name = name }))
+
     unfoldable pub prim : Parser Primary
-    prim = choose (is_kind text k.Integer) integer (choose (is_kind text k.Dollar) reference paren)
+    prim = choose (is_word text word_doc) call (choose (is_kind text k.Integer) integer (choose (is_kind text k.Dollar) reference paren))
 
     unfoldable pub next_prim : Parser Primary
     next_prim = sign k.Plus >> prim

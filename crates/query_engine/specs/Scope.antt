@@ -39,6 +39,7 @@ abbrev pub primary_part : Primary-F Unbound Unbound BindPart Unbound → Unbound
 primary_part (o.Integer n z) s = []
 primary_part (o.Var x) s = unless_bound (visible s x.text) x.offset
 primary_part (o.Paren n es) s = all_parts es s
+primary_part (o.Doc call) s = []
 
 -- the scope behind some bindings
 abbrev pub inner_scope : List Name → Scope → Scope

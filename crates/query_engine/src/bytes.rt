@@ -9,8 +9,8 @@ pub enum Class {
     Digit,
     Letter,
     NameChar,
-    /// A character of the name in a call of `doc`.
-    CallChar,
+    /// A character of a literal.
+    LiteralChar,
 }
 
 /// The byte at a place, or 0 at the end.
@@ -28,7 +28,7 @@ pub fn is_in(class: Class, b: u8) -> bool
         Class::Digit => b >= 48 && b <= 57,
         Class::Letter => b >= 97 && b <= 122,
         Class::NameChar => b >= 97 && b <= 122 || b >= 48 && b <= 57,
-        Class::CallChar => b >= 32 && b <= 126 && b != 34 && b != 38,
+        Class::LiteralChar => b >= 32 && b <= 126 && b != 34 && b != 38,
     }
 }
 

@@ -9,9 +9,9 @@ ghost use Rattle.query_engine.specs.Rules.{Why};
 ghost use Rattle.query_engine.specs.Query.{IsQuery, IsCut, ReadsAs};
 
 use crate::fault::ParseFault;
-use crate::look::{digits, is_kind, is_word, name, place, sign, word};
+use crate::look::{digits, is_kind, is_word, literal, name, place, sign, word};
 use crate::token::Kind;
-use crate::tree::{Bind, Name, Primary, Single, Sum};
+use crate::tree::{Bind, Call, Name, Primary, Single, Sum};
 use sqlite_items::{Boxed, Items};
 use std::alloc::Global;
 
@@ -134,12 +134,33 @@ impl<'a, F: Fn(Global, &[u8], usize, usize) -> Result<(Single, usize), ParseFaul
         Ok((Primary::Paren(offset, found), at))
     }
 
+    #[tactic(auto, unfolding(crate::specs::Reading::call))]
+    fn call(&self, at: usize) -> Result<(Primary, usize), ParseFault>
+        requires { Nests self.now.depth (F.pre self.now.single) (F.post self.now.single) }
+        ensures { Reads (within spec.call self.now.text.now self.now.depth at) result }
+    {
+        let offset = place(self.text, at) as u64;
+        let at = word(self.text, at, b"doc")?;
+        let at = sign(self.text, at, Kind::Open)?;
+        let quote = place(self.text, at) as u64;
+        let (name, at) = literal(self.alloc, self.text, at)?;
+        let at = sign(self.text, at, Kind::Close)?;
+        let call = Call {
+            offset,
+            quote,
+            name,
+        };
+        Ok((Primary::Doc(call), at))
+    }
+
     #[tactic(auto, unfolding(crate::specs::Reading::prim))]
     fn prim(&self, at: usize) -> Result<(Primary, usize), ParseFault>
         requires { Nests self.now.depth (F.pre self.now.single) (F.post self.now.single) }
         ensures { Reads (within spec.prim self.now.text.now self.now.depth at) result }
     {
-        if is_kind(self.text, at, Kind::Integer) {
+        if is_word(self.text, at, b"doc") {
+            self.call(at)
+        } else if is_kind(self.text, at, Kind::Integer) {
             self.integer(at)
         } else if is_kind(self.text, at, Kind::Dollar) {
             self.reference(at)
@@ -293,6 +314,7 @@ fn begins_single(text: &[u8], at: usize) -> bool
     ensures { result ≡ grammar.begins_single text.now at }
 {
     is_word(text, at, b"for")
+        || is_word(text, at, b"doc")
         || is_kind(text, at, Kind::Integer)
         || is_kind(text, at, Kind::Dollar)
         || is_kind(text, at, Kind::Open)

@@ -4,18 +4,15 @@
 #![tactic(auto)]
 
 mod bytes;
-mod call;
 mod engine;
-mod evaluate;
 mod fault;
+mod forms;
 mod grammar;
 mod look;
 mod names;
 mod normal;
-mod rules;
 mod scope;
-mod serial;
 mod token;
 mod tree;
 
-pub use engine::{AnswerFault, CompileFault, Compiled, answer, compile, one_meaning};
+pub use engine::{AnswerFault, CompileFault, answer, compile, one_meaning};

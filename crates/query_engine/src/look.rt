@@ -6,9 +6,10 @@ ghost use Rattle.query_engine.specs.Look.{number, number_from};
 ghost use Rattle.query_engine.specs.Reading as spec;
 ghost use Rattle.query_engine.specs.Outcomes.{Reads, Passes};
 
-use crate::bytes::{Class, is_in, same, start};
+use crate::bytes::{Class, byte, is_in, run_end, same, start};
 use crate::fault::ParseFault;
 use crate::token::{Kind, Token, token_at};
+use crate::tree::Quoted;
 use sqlite_items::Items;
 use std::alloc::Global;
 
@@ -122,6 +123,28 @@ pub fn name(alloc: Global, text: &[u8], at: usize) -> Result<(Items<u8>, usize),
     }
     let found = Items::from_slice(alloc, text_at(text, at))?;
     Ok((found, end_at(text, at)))
+}
+
+const QUOTE: u8 = 34;
+
+/// The characters of the literal that begins here, and where it ends.
+#[tactic(auto, using(crate::proofs::Literals::quote_inside))]
+pub fn literal(alloc: Global, text: &[u8], at: usize) -> Result<(Quoted, usize), ParseFault>
+    ensures { Reads (spec.literal text.now at) result }
+{
+    let open = place(text, at);
+    if byte(text, open) != QUOTE {
+        return Err(ParseFault::Syntax);
+    }
+    let stop = run_end(Class::LiteralChar, text, open + 1);
+    if stop <= open + 1 || byte(text, stop) != QUOTE {
+        return Err(ParseFault::Syntax);
+    }
+    let Ok(name) = str::from_utf8(between(text, open + 1, stop)) else {
+        return Err(ParseFault::Syntax);
+    };
+    let name = Quoted::new(alloc, name)?;
+    Ok((name, stop + 1))
 }
 
 /// What a digit counts.

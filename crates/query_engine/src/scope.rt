@@ -29,6 +29,7 @@ fn in_primary<'a>(
 {
     match primary {
         Primary::Integer(_, _) => Ok(None),
+        Primary::Doc(_) => Ok(None),
         Primary::Var(var) => match names.find(var.text.as_slice()) {
             None => Ok(Some(var.offset)),
             Some(_) => Ok(None),

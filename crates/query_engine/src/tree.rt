@@ -1,5 +1,39 @@
 //! The surface tree of a query. An offset is a count of bytes from the start of the query.
+ghost use Rattle.std.specs.Prelude.{◌≡◌, string_bytes, IfOk};
+
 use sqlite_items::{Boxed, Items};
+use std::alloc::Global;
+use std::marker::Model;
+use xq_base::Want;
+
+/// The characters of a literal.
+#[derive(Drop)]
+pub struct Quoted {
+    text: String,
+}
+
+impl Model for Quoted {
+    ghost use Rattle.std.specs.Prelude.{List, ℕ, string_bytes};
+
+    ghost Value = { List ℕ };
+
+    ghost view = { λ q. string_bytes q.text };
+}
+
+impl Quoted {
+    pub fn new(alloc: Global, text: &str) -> Result<Quoted, Want>
+        ensures { IfOk result (λ q. q ≡ text.now) }
+    {
+        let text = String::from_str(alloc, text)?;
+        Ok(Quoted { text })
+    }
+
+    pub fn as_str(&self) -> &str
+        ensures { result.now ≡ self.now }
+    {
+        self.text.as_str()
+    }
+}
 
 /// A variable's name, and the place of the `$` before it.
 #[derive(Drop)]
@@ -8,11 +42,13 @@ pub struct Name {
     pub text: Items<u8>,
 }
 
-/// A call of `doc`: the place of its first byte, and the name that it gives.
+/// A call of `doc`: the places of its first byte and of the quote that opens its literal, and the
+/// name that it gives.
 #[derive(Drop)]
 pub struct Call {
     pub offset: u64,
-    pub name: Items<u8>,
+    pub quote: u64,
+    pub name: Quoted,
 }
 
 #[cycle(tree)]
@@ -43,4 +79,5 @@ pub enum Primary {
     Integer(u64, i64),
     Var(Name),
     Paren(u64, Items<Single>),
+    Doc(Call),
 }

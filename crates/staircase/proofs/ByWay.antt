@@ -16,7 +16,7 @@ use Rattle.doc_table.proofs.Kids.{within-parts, within-from}
 use Rattle.doc_table.proofs.Marks.{is_prefix-self, is_less-self}
 use Rattle.doc_table.proofs.Ways.{row-of, rest-of, prefix-append, prefix-append_more, less-last, one-parent, snoc-or-nil, begins-sibling}
 use Rattle.staircase.proofs.Children.{child-within}
-use Rattle.staircase.proofs.Some.{both_ways, below-some, some-below}
+use Rattle.staircase.proofs.SomeTests.{both_ways, below-some, some-below}
 
 -- ---- paths of a row and of its child
 

@@ -9,7 +9,7 @@ use Rattle.staircase.specs.declared.frames.Frame.{Frame}
 use Rattle.staircase.specs.Ahead.{has, any, UpFrom, first_of, is_first, without}
 use Rattle.staircase.specs.Frames.{unfinished, advanced, with_frame, next_of, any_frame, FrameOk, FramesOk, KidsAhead}
 use Rattle.staircase.specs.Passes.{NextIs, earlier}
-use Rattle.staircase.proofs.Coming.{any-none, comes-first, comes-none, comes-later, comes-past}
+use Rattle.staircase.proofs.RowsAhead.{any-none, comes-first, comes-none, comes-later, comes-past}
 
 -- what is known of the rows of one tree
 pub record Nests (lines : List (Line TextId)) : Type 0 where

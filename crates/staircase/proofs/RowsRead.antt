@@ -2,7 +2,7 @@
 use Rattle.std.proofs.Common.{inl, inr, ◌⊎◌, ◌≡◌, ℕ, zero, suc, ◌+◌, ◌-◌, ◌<◌, ◌≤◌, Bool, true, false, cond, List, [], ◌∷◌, ◌++◌, length, map, refl, sym, ap, ◌∙◌, subst, arith, Some, length-append}
 use Rattle.std.specs.Prelude.{nat_eq, slice_index_or}
 use Rattle.std.proofs.lemmas.Bool.{cases_lt, eqb-true}
-use Rattle.std.proofs.lemmas.List.{append-nil, map-append}
+use Rattle.std.proofs.lemmas.List.{append-nil, map-append, get_or_append_left, get_or-append-add}
 use Rattle.xq_base.specs.declared.item.TextId.{TextId}
 use Rattle.xq_base.specs.declared.axis.Axis.{Axis}
 use Rattle.xq_base.specs.declared.axis.NodeTest.{NodeTest}
@@ -14,10 +14,9 @@ use Rattle.staircase.specs.declared.seen.Seen.{Seen}
 use Rattle.staircase.specs.Made.{row_found}
 use Rattle.staircase.specs.Parts.{In, IsRising, IsSmall, AreRows}
 use Rattle.staircase.specs.Seen.{seen_of}
-use Rattle.staircase.proofs.Labels.{at-left, at-right}
-use Rattle.staircase.proofs.Parting.{in-at, place-in}
-use Rattle.staircase.proofs.Some.{in-picked, picked-in}
-use Rattle.staircase.proofs.Tasking.{row-found_at}
+use Rattle.staircase.proofs.PartLaws.{in-at, place-in}
+use Rattle.staircase.proofs.SomeTests.{in-picked, picked-in}
+use Rattle.staircase.proofs.TaskLaws.{row-found_at}
 
 -- ---- a row is no deeper than its number
 
@@ -31,11 +30,11 @@ mutual
   level-forest l (one_more t ts) k h =
       let whole : length (encs_at l (one_more t ts)) ≡ length (enc_at l t) + length (encs_at l ts) = length-append (enc_at l t) (encs_at l ts) in
       elim (cases_lt k (length (enc_at l t))) [
-        | inl a ↦ (let e : (slice_index_or (encs_at l (one_more t ts)) k no_line).level ≡ (slice_index_or (enc_at l t) k no_line).level = ap (λ z. z.level) (at-left (enc_at l t) (encs_at l ts) k no_line a) in
+        | inl a ↦ (let e : (slice_index_or (encs_at l (one_more t ts)) k no_line).level ≡ (slice_index_or (enc_at l t) k no_line).level = ap (λ z. z.level) (get_or_append_left (enc_at l t) (encs_at l ts) no_line k a) in
             let r = level-tree l t k a in omega arith)
         | inr g ↦ (let m : ℕ = k - length (enc_at l t) in
             let place : k ≡ length (enc_at l t) + m = omega arith in
-            let e : (slice_index_or (encs_at l (one_more t ts)) k no_line).level ≡ (slice_index_or (encs_at l ts) m no_line).level = ap (λ z. (slice_index_or (encs_at l (one_more t ts)) z no_line).level) place ∙ ap (λ z. z.level) (at-right (enc_at l t) (encs_at l ts) m no_line) in
+            let e : (slice_index_or (encs_at l (one_more t ts)) k no_line).level ≡ (slice_index_or (encs_at l ts) m no_line).level = ap (λ z. (slice_index_or (encs_at l (one_more t ts)) z no_line).level) place ∙ ap (λ z. z.level) (get_or-append-add (enc_at l t) (encs_at l ts) m no_line) in
             let r = level-forest l ts m (omega (arith, whole)) in omega arith)
       ]
 
@@ -79,13 +78,13 @@ rising-more xs s r f = λ i j d h l. here i j d h l (cases_lt j (length xs))
 
     here : (i j : ℕ) (d : Seen) → i < j → j < length (xs ++ s ∷ []) → (j < length xs) ⊎ (length xs ≤ j) → (slice_index_or (xs ++ s ∷ []) i d).pre < (slice_index_or (xs ++ s ∷ []) j d).pre
     here i j d h l (inl m) =
-        let ei : (slice_index_or (xs ++ s ∷ []) i d).pre ≡ (slice_index_or xs i d).pre = ap (λ (z : Seen). z.pre) (at-left xs (s ∷ []) i d (omega arith)) in
-        let ej : (slice_index_or (xs ++ s ∷ []) j d).pre ≡ (slice_index_or xs j d).pre = ap (λ (z : Seen). z.pre) (at-left xs (s ∷ []) j d m) in
+        let ei : (slice_index_or (xs ++ s ∷ []) i d).pre ≡ (slice_index_or xs i d).pre = ap (λ (z : Seen). z.pre) (get_or_append_left xs (s ∷ []) d i (omega arith)) in
+        let ej : (slice_index_or (xs ++ s ∷ []) j d).pre ≡ (slice_index_or xs j d).pre = ap (λ (z : Seen). z.pre) (get_or_append_left xs (s ∷ []) d j m) in
         let less = r i j d h m in omega arith
     here i j d h l (inr g) =
         let last : j ≡ length xs + 0 = omega (arith, long) in
-        let ei : (slice_index_or (xs ++ s ∷ []) i d).pre ≡ (slice_index_or xs i d).pre = ap (λ (z : Seen). z.pre) (at-left xs (s ∷ []) i d (omega (arith, long))) in
-        let ej : (slice_index_or (xs ++ s ∷ []) j d).pre ≡ s.pre = ap (λ z. (slice_index_or (xs ++ s ∷ []) z d).pre) last ∙ ap (λ (z : Seen). z.pre) (at-right xs (s ∷ []) 0 d) in
+        let ei : (slice_index_or (xs ++ s ∷ []) i d).pre ≡ (slice_index_or xs i d).pre = ap (λ (z : Seen). z.pre) (get_or_append_left xs (s ∷ []) d i (omega (arith, long))) in
+        let ej : (slice_index_or (xs ++ s ∷ []) j d).pre ≡ s.pre = ap (λ z. (slice_index_or (xs ++ s ∷ []) z d).pre) last ∙ ap (λ (z : Seen). z.pre) (get_or-append-add xs (s ∷ []) 0 d) in
         let less = f i d (omega (arith, long)) in omega arith
 
 read-rises : (axis : Axis) (tested : NodeTest) (t : Tree TextId) (wants : ℕ → Bool) (n : ℕ) → IsRising (rows_read axis tested t wants n)

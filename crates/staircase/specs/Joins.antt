@@ -9,8 +9,7 @@ use Rattle.doc_table.specs.Places.{Place, names_node, node_at, path_at, row_path
 use Rattle.doc_table.specs.Paths.{Path}
 use Rattle.doc_table.specs.Touched.{Counts, adds_owner, touched_rows}
 use Rattle.doc_table.specs.Enc.{enc}
-use Rattle.doc_table.specs.Sound.{is_sound}
-use Rattle.doc_table.specs.Spine.{is_empty_id}
+use Rattle.doc_table.specs.Attributes.{attributes_apart}
 use Rattle.xq_base.specs.declared.axis.Axis.TheVariants as a
 use Rattle.staircase.specs.declared.hits.Hit.{Hit}
 use Rattle.staircase.specs.declared.seen.Seen.{Seen}
@@ -92,7 +91,7 @@ is_chained a.Attribute = false
 -- the rows of the context and the rows that the step reads, as they were found
 pub record Ready (axis : Axis) (test : NodeTest) (t : Tree TextId) (cs : List Ctx) (rows : List ℕ) (seen : List Seen) : Type 0 where
   pub few : length (enc t) < 2 ^ 32
-  pub sound : is_sound id_eq is_empty_id t ≡ true
+  pub apart : attributes_apart t ≡ true
   pub ascending : Ascending cs
   pub nodes : AreNodes t cs
   pub rows_are : rows ≡ own axis cs

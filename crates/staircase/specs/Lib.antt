@@ -8,6 +8,7 @@ pub mod Made
 pub mod Near
 pub mod Parts
 pub mod Passes
+pub mod References
 pub mod Samples
 pub mod Seen
 pub mod Tasks

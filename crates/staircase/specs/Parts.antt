@@ -1,11 +1,7 @@
 -- The rows that were read, by places and by numbers (own rule).
-use Rattle.std.specs.Prelude.{ℕ, ◌≡◌, ◌-◌, ◌^◌, ◌<◌, ◌≤◌, ◌⊎◌, List, [], ◌∷◌, length, slice_index_or}
+use Rattle.std.specs.Prelude.{ℕ, ◌-◌, ◌^◌, ◌<◌, ◌≤◌, List, length, slice_index_or}
 use Rattle.staircase.specs.declared.seen.Seen.{Seen}
-
--- an element of a list
-abbrev pub In : {X : Type 0} → X → List X → Type 0
-In x [] = ⊥
-In x (y ∷ ys) = (x ≡ y) ⊎ In x ys
+pub use Rattle.doc_table.specs.Ascending.{In}
 
 -- their numbers rise
 abbrev pub IsRising : List Seen → Type 0

@@ -1,16 +1,13 @@
 //! The attributes on an axis.
-ghost use Rattle.std.specs.Prelude.{◌≡◌, ◌<◌, ◌+◌, ◌-◌, ◌^◌, ◌++◌, true, length, OnOk};
+ghost use Rattle.std.specs.Prelude.{◌≡◌, ◌<◌, ◌+◌, ◌-◌, ◌++◌, true, length, OnOk};
 ghost use Rattle.xq_base.specs.declared.item.TextId.{TextId};
-ghost use Rattle.doc_table.specs.Axes.{id_eq};
-ghost use Rattle.doc_table.specs.Enc.{enc, line_in};
 ghost use Rattle.doc_table.specs.Places.{names_node};
 ghost use Rattle.doc_table.specs.Paths.{nth_pair};
-ghost use Rattle.doc_table.specs.Sound.{is_sound};
-ghost use Rattle.doc_table.specs.Spine.{is_empty_id};
 ghost use Rattle.staircase.specs.Attributes.{all_hits, attribute_hit, attribute_part, attribute_parts, holds_self, own_hit};
 ghost use Rattle.staircase.specs.Joins.{place_of, AreNodes};
 ghost use Rattle.staircase.specs.Parts.{AreRows};
 ghost use Rattle.staircase.specs.Seen.{AllSeen};
+ghost use Rattle.doc_table.specs.Limits.{size_limit};
 
 use crate::hits::Hit;
 use crate::kinds::Ctx;
@@ -78,7 +75,7 @@ fn all_attributes(
     attributes: &[(TextId, TextId)],
     hits: &mut Vec<Hit>,
 ) -> Result<(), Want>
-    requires { length attributes.now < 2 ^ 32 - 1 }
+    requires { length attributes.now < size_limit }
     ensures { OnOk result (hits.new.items ≡ hits.old.items ++ all_hits axis test ctx 1 attributes.now) }
 {
     let mut number: u32 = 0;
@@ -100,7 +97,6 @@ fn push_attributes<R: Rows>(
 ) -> Result<(), Want>
     requires rows { AreRows seen.now }
     requires seen { AllSeen axis test (R.tree rows.now) seen.now }
-    requires sound { is_sound id_eq is_empty_id (R.tree rows.now) ≡ true }
     requires node { names_node (R.tree rows.now) (place_of ctx) ≡ true }
     ensures { OnOk result (hits.new.items ≡ hits.old.items ++ attribute_part axis test (R.tree rows.now) seen.now ctx) }
 {
@@ -130,7 +126,6 @@ pub(crate) fn attribute_hits<R: Rows>(
 ) -> Result<(), Want>
     requires rows { AreRows seen.now }
     requires seen { AllSeen axis test (R.tree rows.now) seen.now }
-    requires sound { is_sound id_eq is_empty_id (R.tree rows.now) ≡ true }
     requires nodes { AreNodes (R.tree rows.now) context.now }
     ensures { OnOk result (hits.new.items ≡ hits.old.items ++ attribute_parts axis test (R.tree rows.now) seen.now context.now) }
 {

@@ -16,6 +16,7 @@ mod gather;
 mod hits;
 mod kids;
 mod kinds;
+mod laws;
 mod links;
 mod near;
 mod near_reads;
@@ -38,4 +39,5 @@ mod tests;
 mod worked;
 
 pub use kinds::{Ctx, Tally};
+pub use laws::hits_are_reached;
 pub use step::join;

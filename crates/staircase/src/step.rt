@@ -1,10 +1,7 @@
 //! One step over one fragment.
 ghost use Rattle.std.specs.Prelude.{◌≡◌, ◌<◌, ◌^◌, true, length, map, OnOk, OnErr, IfOk};
-ghost use Rattle.doc_table.specs.Axes.{id_eq};
 ghost use Rattle.doc_table.specs.Enc.{enc};
 ghost use Rattle.doc_table.specs.Notes.{Reading};
-ghost use Rattle.doc_table.specs.Sound.{is_sound};
-ghost use Rattle.doc_table.specs.Spine.{is_empty_id};
 ghost use Rattle.doc_table.specs.Touched.{counts, touched_rows};
 ghost use Rattle.staircase.specs.Hits.{Ascending, Extends};
 ghost use Rattle.staircase.specs.Joins.{own, places, tally_of, AreNodes, Joins, Ready};

@@ -13,8 +13,8 @@ use Rattle.staircase.specs.Hits.{before, all_after, Ascending}
 use Rattle.staircase.specs.Joins.{AreNodes}
 use Rattle.staircase.specs.Parts.{In}
 use Rattle.staircase.proofs.Elements.{in-parts}
-use Rattle.staircase.proofs.Naming.{row-named}
-use Rattle.step_bench.specs.Contexts.{row_in, both, first_rows, every_second}
+use Rattle.doc_table.proofs.RowNodes.{row_named}
+use Rattle.step_bench.specs.Context.{row_in, both, first_rows, every_second}
 
 -- a row of the tree up to a number, and not its first one
 record IsRow (most : ℕ) (c : Ctx) : Type 0 where
@@ -62,7 +62,7 @@ second_ascend n = first-ascend ((n - 1) / 2)
 pub second_named : (t : Tree TextId) → is_lone t ≡ false → AreNodes t (every_second (length (enc t)))
 second_named t e c i =
     let r = first-rows ((length (enc t) - 1) / 2) c i in
-    subst (λ k. names_node t (record { pre = c.pre; attr = k }) ≡ true) (sym r.plain) (row-named t c.pre e (omega (arith, r.some, r.within, mul-div-le (length (enc t) - 1) 2)))
+    subst (λ k. names_node t (record { pre = c.pre; attr = k }) ≡ true) (sym r.plain) (row_named t c.pre e (omega (arith, r.some, r.within, mul-div-le (length (enc t) - 1) 2)))
 
 -- ---- one row more
 

@@ -1,5 +1,5 @@
 pub mod EveryAxis
 pub mod EverySecond
-pub mod Printing
-pub mod Rooted
-pub mod Whole
+pub mod PrintedLines
+pub mod Root
+pub mod WholeInput

@@ -1,7 +1,7 @@
 pub mod Axes
-pub mod Contexts
-pub mod Faults
-pub mod Inputs
-pub mod Lines
-pub mod Steps
-pub mod Runs
+pub mod Context
+pub mod Fault
+pub mod Input
+pub mod Line
+pub mod Step
+pub mod Run

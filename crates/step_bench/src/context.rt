@@ -4,7 +4,7 @@ ghost use Rattle.doc_table.specs.Enc.{enc};
 ghost use Rattle.doc_table.specs.Places.{is_lone};
 ghost use Rattle.staircase.specs.Hits.{Ascending};
 ghost use Rattle.staircase.specs.Joins.{AreNodes};
-ghost use Rattle.step_bench.specs.Contexts.{both, every_second};
+ghost use Rattle.step_bench.specs.Context.{both, every_second};
 
 use doc_table::{Fragment, Rows};
 use staircase::Ctx;

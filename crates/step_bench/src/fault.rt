@@ -1,6 +1,6 @@
 //! Why the program ends without a line for each axis.
 ghost use Rattle.std.specs.Prelude.{◌≡◌};
-ghost use Rattle.step_bench.specs.Faults.{code_of};
+ghost use Rattle.step_bench.specs.Fault.{code_of};
 
 use doc_shred::ShredFault;
 use std::alloc::{AllocError, AllocFailed};

@@ -1,14 +1,12 @@
 //! The bytes of the standard input.
-ghost use Rattle.std.specs.Prelude.{◌≡◌, IfOk, IfErr, vec_items};
-ghost use Rattle.step_bench.specs.Faults.{IsLarge};
-ghost use Rattle.step_bench.specs.Inputs.{IsWhole, IsLong};
+ghost use Rattle.std.specs.Prelude.{◌≡◌, IfOk, IfErr};
+ghost use Rattle.step_bench.specs.Fault.{IsLarge};
+ghost use Rattle.step_bench.specs.Input.{IsWhole, IsLong};
 
 use crate::fault::Fault;
+use doc_shred::DOCUMENT_LIMIT;
 use std::alloc::Global;
 use std::io::{ErrorKind, Read};
-
-/// The most bytes of a document.
-const MOST_BYTES: usize = 67_108_864;
 
 /// All bytes of a reader, within the limit. One byte more is asked for.
 pub fn read_all<R: Read + Drop>(alloc: Global, reader: R) -> Result<Vec<u8>, Fault>
@@ -16,10 +14,10 @@ pub fn read_all<R: Read + Drop>(alloc: Global, reader: R) -> Result<Vec<u8>, Fau
     ensures large { IfErr result (λ fault. IsLarge fault → IsLong (R.remaining reader)) }
 {
     let mut bytes = Vec::new(alloc);
-    let mut limited = reader.take(MOST_BYTES as u64 + 1);
+    let mut limited = reader.take(DOCUMENT_LIMIT as u64 + 1);
     match limited.read_to_end(&mut bytes) {
         Ok(_) => {
-            if bytes.len() > MOST_BYTES {
+            if bytes.len() > DOCUMENT_LIMIT {
                 Err(Fault::TooLarge)
             } else {
                 Ok(bytes)

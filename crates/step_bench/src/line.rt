@@ -1,6 +1,6 @@
 //! The line of a step.
 ghost use Rattle.std.specs.Prelude.{◌≡◌, ◌++◌, decimal, OnOk, IfOk};
-ghost use Rattle.step_bench.specs.Lines.{line_of};
+ghost use Rattle.step_bench.specs.Line.{line_of};
 
 use crate::axes::name_of;
 use crate::step::Taken;

@@ -4,9 +4,9 @@ ghost use Rattle.doc_table.specs.Places.{is_lone};
 ghost use Rattle.staircase.specs.Hits.{Ascending};
 ghost use Rattle.staircase.specs.Joins.{AreNodes};
 ghost use Rattle.step_bench.specs.Axes.{AreChosen, name_of};
-ghost use Rattle.step_bench.specs.Faults.{most_bytes};
-ghost use Rattle.step_bench.specs.Inputs.{IsTreeOf};
-ghost use Rattle.step_bench.specs.Runs.{Prints, Runs};
+ghost use Rattle.doc_shred.specs.Limits.{document_limit};
+ghost use Rattle.step_bench.specs.Input.{IsTreeOf};
+ghost use Rattle.step_bench.specs.Run.{Prints, Runs};
 
 use crate::axes::{AXES, axis_named};
 use crate::context::context_of;
@@ -48,9 +48,9 @@ fn axes_of(alloc: Global, words: Args) -> Result<Vec<Axis>, Fault>
 }
 
 /// The tree of a document's bytes. Its root is no attribute.
-#[tactic(auto, using(crate::proofs::Rooted::document_not_lone))]
+#[tactic(auto, using(crate::proofs::Root::document_not_lone))]
 fn tree_of(alloc: Global, bytes: &[u8]) -> Result<Fragment, Fault>
-    requires { length bytes.now ≤ most_bytes }
+    requires { length bytes.now ≤ document_limit }
     ensures tree { IfOk result (λ tree. IsTreeOf bytes.now tree) }
     ensures root { IfOk result (λ tree. is_lone tree ≡ false) }
 {
@@ -60,7 +60,7 @@ fn tree_of(alloc: Global, bytes: &[u8]) -> Result<Fragment, Fault>
 }
 
 /// Takes the step on an axis, and writes its line.
-#[tactic(auto, using(crate::proofs::Printing::line_printed))]
+#[tactic(auto, using(crate::proofs::PrintedLines::line_printed))]
 fn write_step<W: Write>(
     alloc: Global,
     tree: &Fragment,
@@ -81,7 +81,7 @@ fn write_step<W: Write>(
 }
 
 /// Takes the steps on some axes, and writes a line for each.
-#[tactic(auto, using(crate::proofs::Printing::none_printed, crate::proofs::Printing::take_whole))]
+#[tactic(auto, using(crate::proofs::PrintedLines::none_printed, crate::proofs::PrintedLines::take_whole))]
 fn write_steps<W: Write>(
     alloc: Global,
     tree: &Fragment,

@@ -2,7 +2,7 @@
 ghost use Rattle.std.specs.Prelude.{◌≡◌, IfOk};
 ghost use Rattle.staircase.specs.Hits.{Ascending};
 ghost use Rattle.staircase.specs.Joins.{AreNodes};
-ghost use Rattle.step_bench.specs.Steps.{IsTaken};
+ghost use Rattle.step_bench.specs.Step.{IsTaken};
 
 use doc_table::{Fragment, NoNotes, Reads};
 use staircase::{Ctx, Tally, join};

@@ -2,13 +2,15 @@ use Rattle.std.proofs.Common.{◌≡◌, sym, ap, ◌∙◌, arith}
 use Rattle.doc_table.specs.Tree.{with_texts}
 use Rattle.doc_shred.specs.declared.refusal.ShredFault.TheVariants.{NotWellFormed, Unsupported}
 use Rattle.doc_shred.specs.Document.{lines_joined}
+use Rattle.doc_shred.specs.Limits.{document_limit}
 use Rattle.doc_shred.proofs.Whole.{text_fits, unsupported_cause, malformed_cause, supported, whole_tree, given_tree, level_kept, level_passed}
+use Rattle.doc_shred.proofs.DocumentForms.{document_tree}
 use Rattle.doc_shred.proofs.shredder.shred.Goals as goal
 
 pub document-requires-clause-room : goal.document-requires-clause-room
 document-requires-clause-room c =
     let text = c.as_slice.ensures.value ∙ c.in-Ok.ensures ∙ ap lines_joined c.without_mark.ensures in
-    omega (arith, text_fits c.args.bytes.now c.as_slice.result.now 67108864 text c.requires)
+    omega (arith, text_fits c.args.bytes.now c.as_slice.result.now document_limit text c.requires)
 
 pub returns-in-Err-clause-unsupported : goal.returns-in-Err-clause-unsupported
 returns-in-Err-clause-unsupported c = λ e.
@@ -50,3 +52,8 @@ pub returns-clause-supported : goal.returns-clause-supported
 returns-clause-supported c =
     let text = c.as_slice.ensures.value ∙ c.in-Ok.ensures ∙ ap lines_joined c.without_mark.ensures in
     supported c.args.bytes.now c.as_slice.result.now c.document.new.pool c.document.new.builder c.close.new.self c.finish-fragment.result text c.in_default-document.ensures.read c.close.ensures c.finish-fragment.ensures
+
+pub returns-clause-document : goal.returns-clause-document
+returns-clause-document c =
+    let text = c.as_slice.ensures.value ∙ c.in-Ok.ensures ∙ ap lines_joined c.without_mark.ensures in
+    document_tree c.args.bytes.now c.document.new.pool c.finish-fragment.result (whole_tree c.args.bytes.now c.as_slice.result.now c.document.new.pool c.document.new.builder c.close.new.self c.finish-fragment.result text c.in_default-document.ensures.read c.close.ensures c.finish-fragment.ensures) c.validity.ensures.sound

@@ -1,4 +1,4 @@
-use Rattle.staircase.proofs.Parting.{in-at}
+use Rattle.staircase.proofs.PartLaws.{in-at}
 use Rattle.staircase.proofs.attributes.attribute_hits.Goals as goal
 
 pub push_attributes-requires-clause-node : goal.push_attributes-requires-clause-node

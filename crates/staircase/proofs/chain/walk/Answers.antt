@@ -3,9 +3,9 @@ use Rattle.std.specs.Prelude.{slice_set}
 use Rattle.std.proofs.Math.ListN.{length-set}
 use Rattle.staircase.specs.declared.seen.Seen.{Seen}
 use Rattle.staircase.specs.Chains.{kept_at, onward, Below, Walking}
-use Rattle.staircase.proofs.Linking.{onward-falls, onward-below}
-use Rattle.staircase.proofs.Parting.{same-at}
-use Rattle.staircase.proofs.Walking.{option-same, walk-start, walk-end, walk-met, walk-step}
+use Rattle.staircase.proofs.LinkLaws.{onward-falls, onward-below}
+use Rattle.staircase.proofs.PartLaws.{same-at}
+use Rattle.staircase.proofs.WalkLaws.{option-same, walk-start, walk-end, walk-met, walk-step}
 use Rattle.staircase.proofs.chain.walk.Goals as goal
 
 pub loop-place-init : goal.loop-place-init

@@ -1,8 +1,8 @@
 use Rattle.std.proofs.Common.{◌≡◌, ◌++◌, ◌∙◌, ℕ, Option, List, length, sym, ap, subst}
 use Rattle.staircase.specs.declared.seen.Seen.{Seen}
 use Rattle.staircase.specs.Chains.{all_starts, AddsWalks, AreOrdered, AreWithin, Linked}
-use Rattle.staircase.proofs.Beginning.{on-ok}
-use Rattle.staircase.proofs.Linking.{chains-added, lined-many, lined-ordered, starts-within}
+use Rattle.staircase.proofs.PassStarts.{on-ok}
+use Rattle.staircase.proofs.LinkLaws.{chains-added, lined-many, lined-ordered, starts-within}
 use Rattle.staircase.proofs.chains.gather_chains.Goals as goal
 
 pub links-requires : goal.links-requires

@@ -1,7 +1,7 @@
 use Rattle.std.proofs.Common.{arith, sym, ◌≡◌, ◌<◌, length}
 use Rattle.std.specs.Prelude.{slice_index_or}
 use Rattle.staircase.specs.Chains.{no_seen}
-use Rattle.staircase.proofs.Linking.{place-found_at, no-place}
+use Rattle.staircase.proofs.LinkLaws.{place-found_at, no-place}
 use Rattle.staircase.proofs.chains.own_place.Goals.{else-place-seen-via-then-place-seen+else-seen-place, else-place-seen-via-else-place-seen}
 use Rattle.staircase.proofs.chains.own_place.Goals as goal
 

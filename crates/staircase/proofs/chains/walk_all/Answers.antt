@@ -2,8 +2,8 @@ use Rattle.std.proofs.Common.{refl, sym, subst, IsPermutation}
 use Rattle.std.proofs.lemmas.List.Sorted.{Contains-permutation, IsPermutation-sym}
 use Rattle.staircase.specs.Chains.{onward, OnChain}
 use Rattle.staircase.proofs.Elements.{in-contains, contains-in}
-use Rattle.staircase.proofs.Gaining.{gains-step, gains-whole}
-use Rattle.staircase.proofs.Parting.{in-at}
+use Rattle.staircase.proofs.HitGains.{gains-step, gains-whole}
+use Rattle.staircase.proofs.PartLaws.{in-at}
 use Rattle.staircase.proofs.chains.walk_all.Goals as goal
 
 pub walk-requires-clause-start : goal.walk-requires-clause-start

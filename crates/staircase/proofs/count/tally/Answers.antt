@@ -1,7 +1,7 @@
 use Rattle.std.proofs.Common.{◌∙◌, ◌++◌, subst, ap, map, true}
 use Rattle.staircase.specs.Joins.{row_hit, Stands}
 use Rattle.staircase.specs.Tasks.{Gains}
-use Rattle.staircase.proofs.Tallying.{tally-is}
+use Rattle.staircase.proofs.TallyLaws.{tally-is}
 use Rattle.staircase.proofs.count.tally.Goals as goal
 
 pub returns : goal.returns

@@ -1,6 +1,6 @@
 use Rattle.std.proofs.Common.{◌∙◌, sym}
-use Rattle.staircase.proofs.Beginning.{on-ok}
-use Rattle.staircase.proofs.Gathering.{chain-gains, span-gains}
+use Rattle.staircase.proofs.PassStarts.{on-ok}
+use Rattle.staircase.proofs.GatherLaws.{chain-gains, span-gains}
 use Rattle.staircase.proofs.gather.gather.Goals as goal
 
 pub returns-then-is_chained : goal.returns-then-is_chained

@@ -1,6 +1,6 @@
 use Rattle.std.proofs.Common.{◌∙◌, ◌+◌, sym, arith}
 use Rattle.std.specs.Prelude.{slice_index_or}
-use Rattle.staircase.proofs.Spread.{spread-appends, rises, order-is, spread-end}
+use Rattle.staircase.proofs.HitOrder.{spread-appends, rises, order-is, spread-end}
 use Rattle.staircase.proofs.hits.append_hits.Goals as goal
 
 pub returns-clause-hits : goal.returns-clause-hits

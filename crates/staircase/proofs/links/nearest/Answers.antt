@@ -1,6 +1,6 @@
 use Rattle.std.proofs.Common.{◌<◌, ◌∙◌, length, sym, subst}
 use Rattle.staircase.specs.Chains.{Below, Past}
-use Rattle.staircase.proofs.Linking.{nearest-jump}
+use Rattle.staircase.proofs.LinkLaws.{nearest-jump}
 use Rattle.staircase.proofs.links.nearest.Goals as goal
 
 pub loop-place-preserved : goal.loop-place-preserved

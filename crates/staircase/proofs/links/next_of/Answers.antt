@@ -1,6 +1,6 @@
 use Rattle.std.proofs.Common.{arith}
-use Rattle.staircase.proofs.Linking.{linked-at}
-use Rattle.staircase.proofs.Parting.{in-at}
+use Rattle.staircase.proofs.LinkLaws.{linked-at}
+use Rattle.staircase.proofs.PartLaws.{in-at}
 use Rattle.staircase.proofs.links.next_of.Goals as goal
 
 pub is_next-requires-clause-at : goal.is_next-requires-clause-at

@@ -1,5 +1,5 @@
 use Rattle.std.proofs.Common.{arith}
-use Rattle.staircase.proofs.Parting.{between-places, between-none}
+use Rattle.staircase.proofs.PartLaws.{between-places, between-none}
 use Rattle.staircase.proofs.part.part.Goals as goal
 
 pub returns-then-from-to : goal.returns-then-from-to

@@ -1,5 +1,5 @@
 use Rattle.std.proofs.Common.{arith, ◌+◌, ◌-◌, ◌/◌, ℕ}
-use Rattle.staircase.proofs.Parting.{split-up, split-down}
+use Rattle.staircase.proofs.PartLaws.{split-up, split-down}
 use Rattle.staircase.proofs.part.place_of.Goals as goal
 
 pub loop-low-preserved-then-seen-mid : goal.loop-low-preserved-then-seen-mid

@@ -6,7 +6,7 @@ use Rattle.doc_table.specs.Notes.{AppendsAll, notes_of}
 use Rattle.doc_table.specs.Touched.{picked}
 use Rattle.staircase.specs.Passes.{NextIs}
 use Rattle.staircase.specs.Seen.{seen_of}
-use Rattle.staircase.proofs.Reading.{none-left, partly, reading-err, size-fits, read-more, read-part, entered}
+use Rattle.staircase.proofs.ReadLaws.{none-left, partly, reading-err, size-fits, read-more, read-part, entered}
 use Rattle.staircase.proofs.read.read_rows.Goals as goal
 
 pub returns-in-None-clause-notes : goal.returns-in-None-clause-notes

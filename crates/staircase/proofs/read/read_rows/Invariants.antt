@@ -1,6 +1,6 @@
 use Rattle.std.proofs.Common.{◌-◌, length}
 use Rattle.doc_table.specs.Enc.{enc}
-use Rattle.staircase.proofs.Reading.{ReadTo}
+use Rattle.staircase.proofs.ReadLaws.{ReadTo}
 use Rattle.staircase.proofs.read.read_rows.Given as goal
 
 abbrev pub invariant-loop-seen : goal.invariant-loop-seen

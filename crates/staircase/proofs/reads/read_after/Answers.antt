@@ -2,7 +2,7 @@ use Rattle.std.proofs.Common.{◌≡◌, ◌∙◌, subst, map, IfOk}
 use Rattle.doc_table.specs.Notes.{Reading}
 use Rattle.doc_table.proofs.Marks.{bridge}
 use Rattle.staircase.specs.Seen.{seen_of}
-use Rattle.staircase.proofs.Beginning.{after-start, after-rows}
+use Rattle.staircase.proofs.PassStarts.{after-start, after-rows}
 use Rattle.staircase.proofs.reads.read_after.Goals as goal
 
 pub read_rows-requires : goal.read_rows-requires

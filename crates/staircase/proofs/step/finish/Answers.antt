@@ -1,7 +1,7 @@
 use Rattle.std.proofs.Common.{subst, false}
 use Rattle.staircase.specs.Joins.{Stands}
 use Rattle.staircase.specs.Tasks.{Gains}
-use Rattle.staircase.proofs.Joining.{joined}
+use Rattle.staircase.proofs.JoinLaws.{joined}
 use Rattle.staircase.proofs.step.finish.Goals as goal
 
 pub returns-clause-hits : goal.returns-clause-hits

@@ -6,7 +6,7 @@ use Rattle.doc_table.specs.Enc.{enc}
 use Rattle.doc_table.specs.Notes.{AppendsAll, notes_of}
 use Rattle.doc_table.specs.Touched.{touched_rows}
 use Rattle.staircase.specs.Joins.{places}
-use Rattle.staircase.proofs.Gathering.{ready-rows, ready-seen}
+use Rattle.staircase.proofs.GatherLaws.{ready-rows, ready-seen}
 use Rattle.staircase.proofs.step.join.Goals as goal
 
 pub finish-requires-clause-rows : goal.finish-requires-clause-rows

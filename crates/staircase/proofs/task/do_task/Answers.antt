@@ -1,4 +1,4 @@
-use Rattle.staircase.proofs.Tasking.{adds-found, found-end}
+use Rattle.staircase.proofs.TaskLaws.{adds-found, found-end}
 use Rattle.staircase.proofs.task.do_task.Goals as goal
 
 pub returns : goal.returns

@@ -1,6 +1,6 @@
 use Rattle.std.proofs.Common.{sym, subst, refl, IsPermutation}
 use Rattle.staircase.specs.Tasks.{Finds}
-use Rattle.staircase.proofs.Gaining.{gains-step, gains-whole}
+use Rattle.staircase.proofs.HitGains.{gains-step, gains-whole}
 use Rattle.staircase.proofs.tasks.do_tasks.Goals as goal
 
 pub loop-task-preserved : goal.loop-task-preserved

@@ -1,7 +1,7 @@
 use Rattle.std.proofs.Common.{◌≡◌, ◌∙◌, sym, subst, Some, true, Option}
 use Rattle.staircase.specs.declared.task.Task.{Task}
 use Rattle.staircase.specs.Tasks.{AllOf, Goes, covers}
-use Rattle.staircase.proofs.Tasking.{go-covered, go-done}
+use Rattle.staircase.proofs.TaskLaws.{go-covered, go-done}
 use Rattle.staircase.proofs.tasks.go_on.Goals as goal
 
 pub returns-then-covers : goal.returns-then-covers

@@ -1,8 +1,8 @@
 use Rattle.std.proofs.Common.{arith, sym, ◌≡◌, ◌<◌, length, false}
 use Rattle.std.specs.Prelude.{slice_index_or}
 use Rattle.staircase.specs.declared.seen.Seen.{Seen}
-use Rattle.staircase.proofs.Parting.{in-at}
-use Rattle.staircase.proofs.Tasking.{row-found_at, no-row}
+use Rattle.staircase.proofs.PartLaws.{in-at}
+use Rattle.staircase.proofs.TaskLaws.{row-found_at, no-row}
 use Rattle.staircase.proofs.tasks.own_row.Goals.{else-place-seen-via-then-place-seen+else-seen-place, else-place-seen-via-else-place-seen}
 use Rattle.staircase.proofs.tasks.own_row.Goals as goal
 

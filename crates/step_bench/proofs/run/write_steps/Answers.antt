@@ -1,4 +1,4 @@
-use Rattle.step_bench.proofs.Printing.{next_printed}
+use Rattle.step_bench.proofs.PrintedLines.{next_printed}
 use Rattle.step_bench.proofs.run.write_steps.Goals as goal
 
 pub loop-axis-preserved : goal.loop-axis-preserved

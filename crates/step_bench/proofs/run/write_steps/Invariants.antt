@@ -1,5 +1,5 @@
 use Rattle.std.proofs.Common.{take}
-use Rattle.step_bench.specs.Runs.{Prints}
+use Rattle.step_bench.specs.Run.{Prints}
 use Rattle.step_bench.proofs.run.write_steps.Given as goal
 
 abbrev pub invariant-loop-axis : goal.invariant-loop-axis

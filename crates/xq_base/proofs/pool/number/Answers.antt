@@ -1,6 +1,6 @@
 use Rattle.std.proofs.Common.{refl, inl, ◌≡◌, Some, slice_get, rules}
 use Rattle.xq_base.specs.Pool.{texts_of}
-use Rattle.xq_base.proofs.Places.{Holds-at}
+use Rattle.xq_base.proofs.Distinct.{Holds-at}
 use Rattle.xq_base.proofs.pool.number.Goals as goal
 
 pub returns-in-Some-clause-gained : goal.returns-in-Some-clause-gained

@@ -2,7 +2,7 @@ use Rattle.std.proofs.Common.{◌∙◌, ◌+◌, ap}
 use Rattle.doc_table.specs.Enc.{enc}
 use Rattle.staircase.specs.Ahead.{rest_of, is_first}
 use Rattle.staircase.specs.Passes.{nearer}
-use Rattle.staircase.proofs.Passing.{after-enter, follows-as}
+use Rattle.staircase.proofs.PassLaws.{after-enter, follows-as}
 use Rattle.staircase.proofs.after.AfterPass.enter.Goals as goal
 
 pub returns-clause-knows : goal.returns-clause-knows

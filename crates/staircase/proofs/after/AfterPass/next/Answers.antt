@@ -1,7 +1,7 @@
 use Rattle.std.proofs.Common.{rules}
 use Rattle.doc_table.specs.Enc.{enc}
 use Rattle.staircase.specs.Ahead.{rest_of}
-use Rattle.staircase.proofs.Passing.{after-next}
+use Rattle.staircase.proofs.PassLaws.{after-next}
 use Rattle.staircase.proofs.after.AfterPass.next.Goals as goal
 
 pub returns-then-at-total-clause-next : goal.returns-then-at-total-clause-next

@@ -2,7 +2,7 @@ use Rattle.std.proofs.Common.{◌≡◌, ◌+◌, ◌∙◌, sym, true}
 use Rattle.doc_table.specs.Enc.{enc}
 use Rattle.doc_table.proofs.Marks.{bridge}
 use Rattle.staircase.specs.Ahead.{rest_of, is_first}
-use Rattle.staircase.proofs.Passing.{down-enter, reached-as}
+use Rattle.staircase.proofs.PassLaws.{down-enter, reached-as}
 use Rattle.staircase.proofs.down.DownPass.enter.Goals as goal
 
 pub returns-then-pass-clause-knows : goal.returns-then-pass-clause-knows

@@ -1,7 +1,7 @@
 use Rattle.std.proofs.Common.{arith, ◌≤◌}
 use Rattle.doc_table.specs.Enc.{enc}
 use Rattle.staircase.specs.Ahead.{rest_of}
-use Rattle.staircase.proofs.Passing.{down-first}
+use Rattle.staircase.proofs.PassLaws.{down-first}
 use Rattle.staircase.proofs.down.DownPass.next.Goals as goal
 
 pub returns-clause-next : goal.returns-clause-next

@@ -4,7 +4,7 @@ use Rattle.staircase.specs.Ahead.{rest_of}
 use Rattle.staircase.specs.declared.frames.Frame.{Frame}
 use Rattle.staircase.specs.Frames.{unfinished, advanced, with_frame}
 use Rattle.staircase.proofs.Children.{kids-finished, kids-as, kids-enter, unfinished-open}
-use Rattle.staircase.proofs.Beginning.{tree-nests, on-ok}
+use Rattle.staircase.proofs.PassStarts.{tree-nests, on-ok}
 use Rattle.staircase.proofs.kids.KidsPass.enter.Goals as goal
 
 pub returns-clause-knows : goal.returns-clause-knows

@@ -3,7 +3,7 @@ use Rattle.doc_table.specs.Enc.{enc}
 use Rattle.staircase.specs.Ahead.{rest_of}
 use Rattle.staircase.specs.Frames.{unfinished, next_of}
 use Rattle.staircase.proofs.Children.{TopOpen, kids-finished, kids-as, kids-next, unfinished-open}
-use Rattle.staircase.proofs.Beginning.{tree-nests}
+use Rattle.staircase.proofs.PassStarts.{tree-nests}
 use Rattle.staircase.proofs.kids.KidsPass.next.Goals as goal
 
 pub returns-clause-next : goal.returns-clause-next

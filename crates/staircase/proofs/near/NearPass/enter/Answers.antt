@@ -1,6 +1,6 @@
 use Rattle.doc_table.proofs.Marks.{bridge}
 use Rattle.staircase.specs.Ahead.{rest_of}
-use Rattle.staircase.proofs.Nearing.{near-entered}
+use Rattle.staircase.proofs.NearLaws.{near-entered}
 use Rattle.staircase.proofs.near.NearPass.enter.Goals as goal
 
 pub returns-clause-knows : goal.returns-clause-knows

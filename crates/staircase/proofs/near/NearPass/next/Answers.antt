@@ -2,7 +2,7 @@ use Rattle.std.proofs.Common.{◌∙◌, ap}
 use Rattle.doc_table.proofs.Marks.{bridge}
 use Rattle.staircase.specs.Ahead.{rest_of}
 use Rattle.staircase.specs.Near.{next_near}
-use Rattle.staircase.proofs.Nearing.{near-next}
+use Rattle.staircase.proofs.NearLaws.{near-next}
 use Rattle.staircase.proofs.near.NearPass.next.Goals as goal
 
 pub returns-clause-next : goal.returns-clause-next

@@ -1,7 +1,7 @@
 use Rattle.std.proofs.Common.{length}
 use Rattle.doc_table.specs.Enc.{enc}
 use Rattle.staircase.specs.Ahead.{rest_of}
-use Rattle.staircase.proofs.Coming.{own-next}
+use Rattle.staircase.proofs.RowsAhead.{own-next}
 use Rattle.staircase.proofs.own.OwnPass.next.Goals as goal
 
 pub returns-clause-next : goal.returns-clause-next

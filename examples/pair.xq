@@ -1,0 +1,1 @@
+(doc("books.xml"), doc("books.xml"))
