@@ -1,6 +1,7 @@
 #!/usr/bin/env bash
-# Times the reading and writing of documents, beside xmllint and expat on the same files, as a table. The documents
-# are made by make_auction.py in a folder of their own, which is deleted at the end.
+# Times the reading and writing of documents, beside xmllint and expat on the same files, as a table, and the reading
+# of texts that are chosen to have one hash, beside others. The documents are made by make_auction.py and
+# make_colliding.py in a folder of their own, which is deleted at the end.
 #
 #     benches/documents.sh
 #     SIZES="1 10" RUNS=1 benches/documents.sh    other sizes in megabytes; how often each is run, 3 if left out
@@ -59,3 +60,11 @@ for size in $sizes; do
     echo "expat: skipped, since this python3 has none"
   fi
 done
+
+# The two lines are to differ by less than a factor of three.
+if [ -x "$program" ]; then
+  rows=$(python3 -B "$top/benches/make_colliding.py" 4000000 colliding.xml ordinary.xml) || exit 1
+  bytes=$(wc -c <colliding.xml)
+  line "pathfinder, texts of one hash" "$program" run one.xq colliding.xml
+  line "pathfinder, other texts" "$program" run one.xq ordinary.xml
+fi

@@ -25,7 +25,7 @@ not_added old (Some x) e = cc
 
 -- ---- values
 
-value_turn : (quote : ℕ) (before : List (List ℕ)) (n : ℕ) (from rest v : List ℕ) → r.goes_on quote from ≡ true → r.value_part quote from ≡ Some (v, rest) → r.value_from quote before (suc n) from ≡ r.value_from quote (before ++ v ∷ []) n rest
+pub value_turn : (quote : ℕ) (before : List (List ℕ)) (n : ℕ) (from rest v : List ℕ) → r.goes_on quote from ≡ true → r.value_part quote from ≡ Some (v, rest) → r.value_from quote before (suc n) from ≡ r.value_from quote (before ++ v ∷ []) n rest
 unfolding r.value_from
 value_turn quote before n from rest v e p =
     ap (λ b. cond b (option_and_then (λ (x : List ℕ × List ℕ). r.value_from quote (before ++ x.0 ∷ []) n x.1) (r.value_part quote from)) (option_and_then (λ (x : Unit {0} × List ℕ). Some (joined before, x.1)) (strip (quote ∷ []) from))) e
@@ -37,7 +37,7 @@ value_failed quote before n from e p =
     ap (λ b. cond b (option_and_then (λ (x : List ℕ × List ℕ). r.value_from quote (before ++ x.0 ∷ []) n x.1) (r.value_part quote from)) (option_and_then (λ (x : Unit {0} × List ℕ). Some (joined before, x.1)) (strip (quote ∷ []) from))) e
     ∙ ap (option_and_then (λ (x : List ℕ × List ℕ). r.value_from quote (before ++ x.0 ∷ []) n x.1)) p
 
-value_closed : (quote : ℕ) (before : List (List ℕ)) (n : ℕ) (from : List ℕ) (o : Option (Unit {0} × List ℕ)) → r.goes_on quote from ≡ false → strip (quote ∷ []) from ≡ o
+pub value_closed : (quote : ℕ) (before : List (List ℕ)) (n : ℕ) (from : List ℕ) (o : Option (Unit {0} × List ℕ)) → r.goes_on quote from ≡ false → strip (quote ∷ []) from ≡ o
     → r.value_from quote before (suc n) from ≡ option_and_then (λ (x : Unit {0} × List ℕ). Some (joined before, x.1)) o
 unfolding r.value_from
 value_closed quote before n from o e p =
@@ -73,7 +73,7 @@ value_no_turn quote text m i from all first l g =
 
 -- ---- texts
 
-text_turn : (before : List (List ℕ)) (n : ℕ) (from rest v : List ℕ) → r.has_text from ≡ true → r.text_part from ≡ Some (v, rest) → r.text_from before (suc n) from ≡ r.text_from (before ++ v ∷ []) n rest
+pub text_turn : (before : List (List ℕ)) (n : ℕ) (from rest v : List ℕ) → r.has_text from ≡ true → r.text_part from ≡ Some (v, rest) → r.text_from before (suc n) from ≡ r.text_from (before ++ v ∷ []) n rest
 unfolding r.text_from
 text_turn before n from rest v e p =
     ap (λ b. cond b (option_and_then (λ (x : List ℕ × List ℕ). r.text_from (before ++ x.0 ∷ []) n x.1) (r.text_part from)) (Some (joined before, from))) e
@@ -85,7 +85,7 @@ text_failed before n from e p =
     ap (λ b. cond b (option_and_then (λ (x : List ℕ × List ℕ). r.text_from (before ++ x.0 ∷ []) n x.1) (r.text_part from)) (Some (joined before, from))) e
     ∙ ap (option_and_then (λ (x : List ℕ × List ℕ). r.text_from (before ++ x.0 ∷ []) n x.1)) p
 
-text_done : (before : List (List ℕ)) (n : ℕ) (from : List ℕ) → r.has_text from ≡ false → r.text_from before (suc n) from ≡ Some (joined before, from)
+pub text_done : (before : List (List ℕ)) (n : ℕ) (from : List ℕ) → r.has_text from ≡ false → r.text_from before (suc n) from ≡ Some (joined before, from)
 unfolding r.text_from
 text_done before n from e = ap (λ b. cond b (option_and_then (λ (x : List ℕ × List ℕ). r.text_from (before ++ x.0 ∷ []) n x.1) (r.text_part from)) (Some (joined before, from))) e
 

@@ -25,4 +25,6 @@ pub mod Spines
 pub mod StartLaws
 pub mod TagLaws
 pub mod Whole
+pub mod PlainRuns
+pub mod PlainTexts
 pub mod DocumentForms

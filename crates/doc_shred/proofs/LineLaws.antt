@@ -1,6 +1,8 @@
 -- Line ends, and the mark at the start.
-use Rattle.std.proofs.Common.{◌≡◌, ℕ, suc, ◌+◌, ◌<◌, ◌≤◌, Bool, true, false, cond, nat_eq, List, [], ◌∷◌, ◌++◌, length, drop, get_or, Option, Some, None, is_some, sym, ap, ◌∙◌, arith, length-drop, append-nil}
+use Rattle.std.proofs.Common.{refl, ◌||◌, true≢false, ◌≡◌, ℕ, suc, ◌+◌, ◌<◌, ◌≤◌, Bool, true, false, cond, nat_eq, List, [], ◌∷◌, ◌++◌, length, drop, get_or, Option, Some, None, is_some, sym, ap, ◌∙◌, arith, length-drop, append-nil}
+use Rattle.std.proofs.lemmas.Bool.{eqb-true}
 use Rattle.std.proofs.lemmas.List.{at_drop_more, at_drop_all}
+use Rattle.std.specs.List.{list_any}
 use Rattle.doc_shred.specs.Rules.{begins}
 use Rattle.doc_shred.specs.Parsers.{strip}
 use Rattle.doc_shred.specs.Views.{Lent}
@@ -54,3 +56,15 @@ joins_on out new after now bytes i byte l e a j =
 
 pub joins_all : (out : List ℕ) (after : Bool) (bytes : List ℕ) (i : ℕ) → length bytes ≤ i → Joins out after bytes i → out ≡ lines_joined bytes
 joins_all out after bytes i l j = sym (append-nil out) ∙ ap (λ z. out ++ z) (sym (at_drop_all (lines_from after) bytes i l)) ∙ j
+
+-- bytes without a carriage return stay as they are
+pub no_returns : (bytes : List ℕ) → list_any (λ y. nat_eq y 13) bytes ≡ false → bytes ≡ lines_joined bytes
+no_returns [] e = refl
+no_returns (c ∷ cs) e = by (nat_eq c 13) (nat_eq c 10) (eqb-true c 10) e (no_returns cs)
+  where
+    by : (a b : Bool) → (b ≡ true → c ≡ 10) → a || list_any (λ y. nat_eq y 13) cs ≡ false
+        → (list_any (λ y. nat_eq y 13) cs ≡ false → cs ≡ lines_from false cs)
+        → c ∷ cs ≡ cond a (10 ∷ lines_from true cs) (cond b (10 ∷ lines_from false cs) (c ∷ lines_from false cs))
+    by true b h e next = absurd (true≢false e)
+    by false true h e next = ap (λ z. z ∷ cs) (h refl) ∙ ap (λ z. 10 ∷ z) (next e)
+    by false false h e next = ap (λ z. c ∷ z) (next e)

@@ -32,6 +32,18 @@ is_xml name = bytes_eq (str_to_ascii_lowercase name) (codes "xml")
 abbrev pub is_data_byte : ℕ → Bool
 is_data_byte b = not (b == 60) && not (b == 38)
 
+-- an ASCII character of data that stands for itself wherever it stands: no `]`, with which "]]>" begins (own rule)
+unfoldable pub is_plain_byte : ℕ → Bool
+is_plain_byte b = (is_in_range 32 126 b || b == 9 || b == 10 || b == 13) && not (b == 60) && not (b == 38) && not (b == 93)
+
+-- an ASCII character of a value that stands for itself between these quotes: no white space but blanks (own rule)
+unfoldable pub is_plain_value_byte : ℕ → ℕ → Bool
+is_plain_value_byte quote b = is_in_range 32 126 b && not (b == quote) && not (b == 60) && not (b == 38)
+
+-- an ASCII character of a Name (own rule)
+unfoldable pub is_plain_name_byte : ℕ → Bool
+is_plain_name_byte b = is_ascii_alphanumeric b || b == 95 || b == 58 || is_in_range 45 46 b
+
 -- character data: characters among which "]]>" doesn't stand (XML 1.0, section 2.4, production 14)
 unfoldable pub are_data : List ℕ → Bool
 are_data bytes = are_chars bytes && not (holds (93 ∷ 93 ∷ 62 ∷ []) bytes)

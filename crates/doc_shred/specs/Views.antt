@@ -3,8 +3,8 @@ use Rattle.std.specs.Prelude.{ℕ, Bool, not, ◌&&◌, ◌==◌, if◌then◌el
 use Rattle.std.specs.Borrow.{Bor}
 use Rattle.std.specs.Char.{encode_utf8, is_ascii_digit, is_ascii_hexdigit, is_ascii_alphabetic}
 use Rattle.doc_shred.specs.declared.bytes.Class.{Class}
-use Rattle.doc_shred.specs.declared.bytes.Class.TheVariants.{Blank, Name, Data, Value, Quoted, Public, Encoding, Letter, Digit, Hexadecimal}
-use Rattle.doc_shred.specs.Classes.{is_blank, is_name_byte, is_data_byte, is_value_byte, is_public_byte, is_encoding_byte}
+use Rattle.doc_shred.specs.declared.bytes.Class.TheVariants.{Blank, Name, Data, Value, Quoted, Public, Encoding, Letter, Digit, Hexadecimal, Plain, PlainValue, PlainName}
+use Rattle.doc_shred.specs.Classes.{is_blank, is_name_byte, is_data_byte, is_value_byte, is_public_byte, is_encoding_byte, is_plain_byte, is_plain_value_byte, is_plain_name_byte}
 
 abbrev pub Lent : Type 0
 Lent = Bor (List ℕ)
@@ -20,6 +20,9 @@ class_test Encoding = is_encoding_byte
 class_test Letter = is_ascii_alphabetic
 class_test Digit = is_ascii_digit
 class_test Hexadecimal = is_ascii_hexdigit
+class_test Plain = is_plain_byte
+class_test (PlainValue quote) = is_plain_value_byte quote
+class_test PlainName = is_plain_name_byte
 
 -- what was read, and what is left
 abbrev pub pair_of : Option (Lent × Lent) → Option (List ℕ × List ℕ)

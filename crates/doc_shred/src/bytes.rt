@@ -21,10 +21,16 @@ pub enum Class {
     Letter,
     Digit,
     Hexadecimal,
+    /// ASCII characters of data that need no closer look.
+    Plain,
+    /// ASCII characters of a value between these quotes that need no closer look.
+    PlainValue(u8),
+    /// ASCII characters of a name.
+    PlainName,
 }
 
 /// Whether a byte is of a class.
-#[tactic(auto, unfolding(crate::specs::Classes::is_name_byte, crate::specs::Classes::is_public_byte))]
+#[tactic(auto, unfolding(crate::specs::Classes::is_name_byte, crate::specs::Classes::is_public_byte, crate::specs::Classes::is_plain_byte, crate::specs::Classes::is_plain_value_byte, crate::specs::Classes::is_plain_name_byte))]
 pub fn is_in(class: Class, byte: u8) -> bool
     ensures { result ≡ class_test class byte }
 {
@@ -41,6 +47,21 @@ pub fn is_in(class: Class, byte: u8) -> bool
         Class::Letter => byte.is_ascii_alphabetic(),
         Class::Digit => byte.is_ascii_digit(),
         Class::Hexadecimal => byte.is_ascii_hexdigit(),
+        Class::Plain => {
+            (matches!(byte, b' '..=b'~') || byte == b'\t' || byte == b'\n' || byte == b'\r')
+                && byte != b'<'
+                && byte != b'&'
+                && byte != b']'
+        }
+        Class::PlainValue(quote) => {
+            matches!(byte, b' '..=b'~') && byte != quote && byte != b'<' && byte != b'&'
+        }
+        Class::PlainName => {
+            byte.is_ascii_alphanumeric()
+                || byte == b'_'
+                || byte == b':'
+                || matches!(byte, b'-'..=b'.')
+        }
     }
 }
 

@@ -2,6 +2,7 @@
 //! is a fragment, or the one reason why there is none.
 #![tactic(auto)]
 
+mod attributes;
 mod bytes;
 mod content;
 mod depth;
@@ -13,6 +14,7 @@ mod lines;
 mod markup;
 mod names;
 mod pieces;
+mod plain;
 mod prolog;
 mod references;
 mod refusal;

@@ -7,6 +7,7 @@ ghost use Rattle.doc_shred.specs.Reading as r;
 ghost use Rattle.doc_shred.specs.Views.{pair_of, silent, target_of, flag_of};
 
 use crate::bytes::{Class, comes, comes_word, some_run, split_run, strip};
+use crate::plain::{plain_data, plain_name};
 use crate::texts::{characters, name_text};
 
 /// The bytes before the first place where a word stands, and what follows the word.
@@ -29,14 +30,24 @@ pub fn space(bytes: &[u8]) -> Option<(&[u8], &[u8])>
     some_run(Class::Blank, bytes)
 }
 
-/// A Name (XML 1.0, section 2.3, production 5).
+/// A Name of any characters (XML 1.0, section 2.3, production 5).
 #[tactic(auto, unfolding(crate::specs::Reading::name))]
-pub fn name(bytes: &[u8]) -> Option<(&str, &[u8])>
+fn any_name(bytes: &[u8]) -> Option<(&str, &[u8])>
     ensures { pair_of result ≡ r.name bytes.now }
 {
     let (run, rest) = split_run(Class::Name, bytes);
     let name = name_text(run)?;
     Some((name, rest))
+}
+
+/// A Name (XML 1.0, section 2.3, production 5).
+pub fn name(bytes: &[u8]) -> Option<(&str, &[u8])>
+    ensures { pair_of result ≡ r.name bytes.now }
+{
+    match plain_name(bytes) {
+        Some(read) => Some(read),
+        None => any_name(bytes),
+    }
 }
 
 /// '=' with white space round it (XML 1.0, section 2.8, production 25).
@@ -109,9 +120,10 @@ pub fn cdata(bytes: &[u8]) -> Option<(&str, &[u8])>
     Some((value, rest))
 }
 
-/// Characters among which neither markup nor a reference begins (XML 1.0, section 2.4, production 14).
+/// Any characters among which neither markup nor a reference begins (XML 1.0, section 2.4, production
+/// 14).
 #[tactic(auto, unfolding(crate::specs::Reading::data_run, crate::specs::Classes::are_data))]
-pub fn data_run(bytes: &[u8]) -> Option<(&str, &[u8])>
+fn any_data(bytes: &[u8]) -> Option<(&str, &[u8])>
     ensures { pair_of result ≡ r.data_run bytes.now }
 {
     let (run, rest) = some_run(Class::Data, bytes)?;
@@ -120,6 +132,16 @@ pub fn data_run(bytes: &[u8]) -> Option<(&str, &[u8])>
         return None;
     }
     Some((value, rest))
+}
+
+/// Characters among which neither markup nor a reference begins (XML 1.0, section 2.4, production 14).
+pub fn data_run(bytes: &[u8]) -> Option<(&str, &[u8])>
+    ensures { pair_of result ≡ r.data_run bytes.now }
+{
+    match plain_data(bytes) {
+        Some(read) => Some(read),
+        None => any_data(bytes),
+    }
 }
 
 /// Whether a word stands somewhere in the bytes.

@@ -96,10 +96,11 @@ pub fn add_text<'a>(
         Err(error) => return Err(error),
         Ok(read) => read,
     };
+    let text = text.as_str();
     if text.is_empty() {
         return Ok(rest);
     }
-    let value = pool.intern(text.as_str())?;
+    let value = pool.intern(text)?;
     builder.text(value)?;
     Ok(rest)
 }

@@ -1,5 +1,6 @@
 //! Start tags: an element is opened, and its attributes are added.
-ghost use Rattle.std.specs.Prelude.{◌≡◌, ◌<◌, ◌+◌, ◌-◌, [], true, length, IfOk, OnOk, Err, None, ◌⊎◌, string_bytes};
+ghost use Rattle.std.specs.Prelude.{◌≡◌, ◌<◌, ◌+◌, ◌-◌, [], true, length, IfOk, OnOk, Err, None, ◌⊎◌};
+ghost use Rattle.std.specs.Cow.{cow_str_bytes};
 ghost use Rattle.xq_base.specs.Pool.{NoRepeats};
 ghost use Rattle.doc_table.specs.Spine.{takes_attributes, attributes_open};
 ghost use Rattle.doc_shred.specs.declared.fault.Fault.TheVariants.{Malformed};
@@ -9,20 +10,21 @@ ghost use Rattle.doc_shred.specs.Standing.{IsLater, AttributeAdded, AttributeTwi
 ghost use Rattle.doc_shred.specs.Walk as w;
 ghost use Rattle.doc_table.specs.Limits.{size_limit};
 
+use crate::attributes::NameNumbers;
 use crate::bytes::strip;
 use crate::fault::Fault;
 use crate::markup::{equals, has_attribute, name, space, tag_end};
 use crate::names::OpenNames;
 use crate::values::value;
 use doc_table::{FragmentBuilder, Kind};
-use indexmap::IndexSet;
 use std::alloc::Global;
+use std::borrow::CowStr;
 use xq_base::Pool;
 
 /// White space and an attribute, with its name and value (XML 1.0, section 3.1, production 41).
 #[tactic(auto, unfolding(crate::specs::Reading::attribute))]
-fn attribute(alloc: Global, bytes: &[u8]) -> Result<((&str, String), &[u8]), Fault>
-    ensures { IsRead (λ x. ((x.0.0.now, string_bytes x.0.1), x.1.now)) (r.attribute bytes.now) result }
+fn attribute(alloc: Global, bytes: &[u8]) -> Result<((&str, CowStr<'_>), &[u8]), Fault>
+    ensures { IsRead (λ x. ((x.0.0.now, cow_str_bytes x.0.1), x.1.now)) (r.attribute bytes.now) result }
 {
     let Some((_, rest)) = space(bytes) else {
         return Err(Fault::Malformed);
@@ -45,16 +47,16 @@ fn add_attribute<'a>(
     alloc: Global,
     pool: &mut Pool,
     builder: &mut FragmentBuilder,
-    names: &mut IndexSet<u64>,
+    names: &mut NameNumbers,
     bytes: &'a [u8],
 ) -> Result<&'a [u8], Fault>
     requires element { takes_attributes builder.old.nodes ≡ true }
-    requires names { names.old.keys ≡ name_numbers builder.old.nodes }
+    requires names { names.old ≡ name_numbers builder.old.nodes }
     requires room { length (attributes_open builder.old.nodes) + 1 < size_limit }
     ensures later { IsLater pool.old pool.new }
     ensures added { IfOk result (λ rest. AttributeAdded pool.new builder.old builder.new bytes.now rest.now) }
     ensures different { IfOk result (λ _. NoRepeats pool.new) }
-    ensures names { OnOk result (names.new.keys ≡ name_numbers builder.new.nodes) }
+    ensures names { OnOk result (names.new ≡ name_numbers builder.new.nodes) }
     ensures refused { result ≡ Err Malformed → (r.attribute bytes.now ≡ None) ⊎ (AttributeTwice pool.new builder.old bytes.now × NoRepeats pool.new) }
 {
     let ((name, value), rest) = match attribute(alloc, bytes) {
@@ -84,7 +86,7 @@ fn add_attributes<'a>(
     ensures added { IfOk result (λ rest. AttributesAdded pool.new builder.old builder.new bytes.now rest.now) }
     ensures refused { result ≡ Err Malformed → w.attributes bytes.now ≡ None }
 {
-    let mut names = IndexSet::new(alloc);
+    let mut names = NameNumbers::new(alloc, pool.keys());
     let mut rest = bytes;
     for _turn in 0..bytes.len() + 1 {
         if !has_attribute(rest) {

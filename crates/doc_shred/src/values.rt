@@ -1,5 +1,6 @@
 //! Values of attributes.
 ghost use Rattle.std.specs.Prelude.{◌≡◌, ◌+◌, ◌++◌, ◌∷◌, [], length, map, OnOk, string_bytes};
+ghost use Rattle.std.specs.Cow.{cow_str_bytes};
 ghost use Rattle.doc_shred.specs.Classes.{to_blank};
 ghost use Rattle.doc_shred.specs.Outcomes.{IsRead};
 ghost use Rattle.doc_shred.specs.Parsers.{strip, fronted};
@@ -8,9 +9,11 @@ ghost use Rattle.doc_shred.specs.Views.{silent};
 
 use crate::bytes::{Class, comes, comes_word, some_run};
 use crate::fault::Fault;
+use crate::plain::plain_value;
 use crate::references::reference;
 use crate::texts::characters;
 use std::alloc::{AllocError, Global};
+use std::borrow::CowStr;
 
 /// What follows a quote.
 pub fn after_quote(quote: u8, bytes: &[u8]) -> Option<&[u8]>
@@ -88,19 +91,25 @@ fn value_parts(alloc: Global, quote: u8, bytes: &[u8]) -> Result<(String, &[u8])
 
 /// A value between these quotes.
 #[tactic(auto, unfolding(crate::specs::Reading::value_in))]
-fn value_in(alloc: Global, quote: u8, bytes: &[u8]) -> Result<(String, &[u8]), Fault>
-    ensures { IsRead (λ x. (string_bytes x.0, x.1.now)) (r.value_in quote bytes.now) result }
+fn value_in(alloc: Global, quote: u8, bytes: &[u8]) -> Result<(CowStr<'_>, &[u8]), Fault>
+    ensures { IsRead (λ x. (cow_str_bytes x.0, x.1.now)) (r.value_in quote bytes.now) result }
 {
-    match after_quote(quote, bytes) {
-        None => Err(Fault::Malformed),
-        Some(rest) => value_parts(alloc, quote, rest),
+    let Some(rest) = after_quote(quote, bytes) else {
+        return Err(Fault::Malformed);
+    };
+    match plain_value(quote, rest) {
+        Some((value, rest)) => Ok((CowStr::Borrowed(value), rest)),
+        None => match value_parts(alloc, quote, rest) {
+            Err(error) => Err(error),
+            Ok((value, rest)) => Ok((CowStr::Owned(value), rest)),
+        },
     }
 }
 
 /// A value in double or in single quotes (XML 1.0, section 2.3, production 10).
 #[tactic(auto, unfolding(crate::specs::Reading::value))]
-pub fn value(alloc: Global, bytes: &[u8]) -> Result<(String, &[u8]), Fault>
-    ensures { IsRead (λ x. (string_bytes x.0, x.1.now)) (r.value bytes.now) result }
+pub fn value(alloc: Global, bytes: &[u8]) -> Result<(CowStr<'_>, &[u8]), Fault>
+    ensures { IsRead (λ x. (cow_str_bytes x.0, x.1.now)) (r.value bytes.now) result }
 {
     if comes_word(b"\"", bytes) {
         value_in(alloc, b'"', bytes)

@@ -78,7 +78,7 @@ pub ordered_once : OrderedOnce
 ordered_once ns = stands_once node_less node_eq nodes_order ns
 
 -- an element of the nodes in document order, where one identity has one tree
-in-order : (ns : List (Node Text)) → OneTreeEach ns → (n : Node Text) → In n ns → In n (in_document_order ns)
+pub in-order : (ns : List (Node Text)) → OneTreeEach ns → (n : Node Text) → In n ns → In n (in_document_order ns)
 in-order ns one n h =
     let s = ordered_once ns in
     let r = has-in node_less node_eq n (in_document_order ns) (s.all n h) in

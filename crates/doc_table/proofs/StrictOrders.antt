@@ -11,7 +11,7 @@ use Rattle.doc_table.proofs.Marks.{is_prefix-self, is_less-turned}
 
 -- ---- equalities that are exact
 
-same-bools : (a b : Bool) → (a ≡ true → b ≡ true) → (b ≡ true → a ≡ true) → a ≡ b
+pub same-bools : (a b : Bool) → (a ≡ true → b ≡ true) → (b ≡ true → a ≡ true) → a ≡ b
 same-bools true b f g = sym (f refl)
 same-bools false true f g = g refl
 same-bools false false f g = refl

@@ -1,5 +1,6 @@
 -- What a step finds, by references (XQuery 1.0, section 3.2.1).
-use Rattle.std.specs.Prelude.{◌≡◌, Bool, true, List, ◌++◌, length, map, flat_map}
+use Rattle.std.specs.Prelude.{not, cond, ◌≡◌, Bool, true, List, ◌++◌, length, map, flat_map}
+use Rattle.std.specs.List.{filter}
 use Rattle.xq_base.specs.declared.axis.Axis.{Axis}
 use Rattle.xq_base.specs.declared.item.FragKey.{FragKey}
 use Rattle.xq_base.specs.declared.item.NodeRef.{NodeRef}
@@ -8,10 +9,13 @@ use Rattle.xq_base.specs.Pool.{NoRepeats}
 use Rattle.xq_base.specs.Texts.{Text, text_eq}
 use Rattle.doc_table.specs.Tree.{Tree, text_in, with_texts}
 use Rattle.doc_table.specs.Axes.{Test, id_eq, steps_to}
-use Rattle.doc_table.specs.Places.{names_node, node_at}
-use Rattle.doc_table.specs.Identity.{Node, tree_id_eq, tree_id_less, node_eq, node_less, node_of, id_of_key, place_of, ref_less}
+use Rattle.doc_table.specs.Places.{is_lone, names_node, node_at}
+use Rattle.doc_table.specs.Identity.{Node, tree_id_eq, tree_id_less, node_eq, node_less, node_of, id_of_key, place_of, ref_eq, ref_less}
 use Rattle.doc_table.specs.Attributes.{attributes_apart}
 use Rattle.doc_table.specs.Given.{tree_given}
+use Rattle.doc_table.specs.Orders.{has}
+use Rattle.doc_table.specs.Nodes.{root_node}
+use Rattle.doc_table.specs.NodeRules.{those_in, those_not_in}
 use Rattle.doc_table.specs.Ascending.{In, Ascends, StandsOnce}
 use Rattle.doc_table.specs.Steps.{test_with, found, in_document_order}
 use Rattle.doc_table.specs.TestTexts.{test_given}
@@ -65,3 +69,28 @@ StepByNumbers = (texts : List Text) (axis : Axis) (test : Test TextId) (trees : 
     → AreKept texts trees context → test_given (length texts) test ≡ true
     → AreReached id_eq axis test trees context hits
     → map (node_of (λ key. with_texts texts (trees key))) hits ≡ in_document_order (flat_map (found axis (test_with (text_in texts) test)) (map (node_of (λ key. with_texts texts (trees key))) context))
+
+-- each names a node
+abbrev pub AllNamed : {T : Type 0} → (FragKey → Tree T) → List NodeRef → Type 0
+AllNamed trees rs = (r : NodeRef) → In r rs → names_node (trees r.frag) (place_of r) ≡ true
+
+-- references in their order, each once, are nodes in document order
+abbrev pub OrderedByReferences : Type 0
+OrderedByReferences = (trees : FragKey → Tree Text) (rs sorted : List NodeRef) → AllNamed trees rs → Ascends ref_less sorted
+    → ((r : NodeRef) → In r sorted → In r rs) → ((r : NodeRef) → In r rs → In r sorted)
+    → map (node_of trees) sorted ≡ in_document_order (map (node_of trees) rs)
+
+-- what two lists of references say of the nodes that they name
+pub record NameSets (trees : FragKey → Tree Text) (rs ss : List NodeRef) : Type 0 where
+  pub both : those_in (map (node_of trees) rs) (map (node_of trees) ss) ≡ map (node_of trees) (filter (λ r. has ref_eq r ss) rs)
+  pub first : those_not_in (map (node_of trees) rs) (map (node_of trees) ss) ≡ map (node_of trees) (filter (λ r. not (has ref_eq r ss)) rs)
+
+abbrev pub SetsByReferences : Type 0
+SetsByReferences = (trees : FragKey → Tree Text) (rs ss : List NodeRef) → AllNamed trees rs → AllNamed trees ss → NameSets trees rs ss
+
+-- the reference to the root of a tree
+abbrev pub root_ref : {T : Type 0} → (FragKey → Tree T) → NodeRef → NodeRef
+root_ref trees r = record { frag = r.frag; pre = 0; attr = cond (is_lone (trees r.frag)) 1 0 }
+
+abbrev pub RootReference : Type 0 → Type 0
+RootReference T = (trees : FragKey → Tree T) (r : NodeRef) → (names_node (trees r.frag) (place_of (root_ref trees r)) ≡ true) × (node_of trees (root_ref trees r) ≡ root_node (node_of trees r))

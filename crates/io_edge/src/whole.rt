@@ -36,8 +36,8 @@ pub fn write_whole<S: Sink>(sink: &mut S, bytes: &[u8]) -> Result<(), Failed>
     Ok(())
 }
 
-/// The bytes that are asked for at once: one page of memory.
-const CHUNK: usize = 4096;
+/// The bytes that are asked for at once: sixteen pages of memory.
+const CHUNK: usize = 65_536;
 
 /// Reads the next bytes of the open file behind those that came before and answers their number, 0 at
 /// the end of the file. `ReadFault` only where the shelf counted a fault, `TooLarge` exactly where all

@@ -1,7 +1,9 @@
-use Rattle.std.proofs.Common.{◌≡◌, ◌+◌, length, arith, rules, true, false, ⊎_elim}
+use Rattle.std.proofs.Common.{◌≡◌, ◌+◌, ◌∙◌, ap, sym, map, length, arith, rules, true, false, ⊎_elim}
+use Rattle.xq_base.specs.declared.item.TextId.{TextId}
+use Rattle.doc_shred.specs.Standing.{name_numbers}
 use Rattle.doc_shred.specs.Reading as r
-use Rattle.doc_shred.proofs.Spines.{later_later}
-use Rattle.doc_shred.proofs.AttributeLaws.{so_far_goes_on, so_far_missing, so_far_twice, so_far_ends, so_far_no_turn}
+use Rattle.doc_shred.proofs.Spines.{later_later, later_self}
+use Rattle.doc_shred.proofs.AttributeLaws.{so_far_begins, so_far_goes_on, so_far_missing, so_far_twice, so_far_ends, so_far_no_turn}
 use Rattle.doc_shred.proofs.tags.add_attributes.Goals as goal
 
 pub returns-then-not-has_attribute-clause-added : goal.returns-then-not-has_attribute-clause-added
@@ -29,3 +31,8 @@ loop-turn-preserved c =
 
 pub returns-clause-refused : goal.returns-clause-refused
 returns-clause-refused c = λ e. so_far_no_turn c.loop-turn.pool c.args.builder.now c.loop-turn.builder (length c.args.bytes.now + 1) c.loop-turn._turn c.loop-turn.rest.now c.args.bytes.now (omega arith) c.loop-turn.invariant.1
+
+pub loop-turn-init : goal.loop-turn-init
+loop-turn-init c =
+    let none : c.new-names.result ≡ name_numbers c.args.builder.now.nodes = c.new-names.ensures ∙ ap (map (λ (a : TextId × TextId). a.0.0)) (sym c.requires.none) in
+    (later_self c.args.pool.now, so_far_begins c.args.pool.now c.args.builder.now c.args.bytes.now c.requires.element c.requires.none, none)

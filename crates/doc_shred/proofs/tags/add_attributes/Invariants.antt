@@ -4,4 +4,4 @@ use Rattle.doc_shred.proofs.AttributeLaws.{IsSoFar}
 use Rattle.doc_shred.proofs.tags.add_attributes.Given as goal
 
 abbrev pub invariant-loop-turn : goal.invariant-loop-turn
-invariant-loop-turn l = IsLater l.fn.pool l.pool × IsSoFar l.pool l.fn.builder l.builder (length l.bytes + 1 - l._turn) l.rest l.bytes × (l.names.keys ≡ name_numbers l.builder.nodes)
+invariant-loop-turn l = IsLater l.fn.pool l.pool × IsSoFar l.pool l.fn.builder l.builder (length l.bytes + 1 - l._turn) l.rest l.bytes × (l.names ≡ name_numbers l.builder.nodes)

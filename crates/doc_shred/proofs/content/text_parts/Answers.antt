@@ -3,7 +3,7 @@ use Rattle.doc_shred.specs.Parsers.{fronted}
 use Rattle.doc_shred.specs.Reading as r
 use Rattle.doc_shred.proofs.Gathering.{text_goes_on, text_refused, text_ends, text_no_turn}
 use Rattle.doc_shred.proofs.Passing.{passed_on}
-use Rattle.doc_shred.proofs.content.text_run.Goals as goal
+use Rattle.doc_shred.proofs.content.text_parts.Goals as goal
 
 pub returns : goal.returns
 unfolding r.text_run
