@@ -1,9 +1,11 @@
+pub mod Answered
 pub mod Answers
 pub mod Bools
 pub mod Chains
 pub mod Drops
 pub mod EvalLaws
 pub mod Exact
+pub mod Falling
 pub mod Few
 pub mod Firsts
 pub mod Follow
@@ -17,7 +19,10 @@ pub mod Places
 pub mod PlainForms
 pub mod Productions
 pub mod Query
+pub mod Ruling
 pub mod Short
+pub mod StaysGiven
 pub mod Steps
+pub mod Turning
 pub mod Turns
 pub mod Unfolds

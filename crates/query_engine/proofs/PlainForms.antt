@@ -8,7 +8,7 @@ use Rattle.xq_base.specs.declared.item.Atom.TheVariants as a
 use Rattle.xq_base.specs.declared.item.TextId.{TextId}
 use Rattle.xq_base.specs.Atoms.{TextAtom}
 use Rattle.doc_table.specs.Given.{is_given}
-use Rattle.doc_table.proofs.GivenLaws.{stays-given}
+use Rattle.query_engine.proofs.StaysGiven.{stays_given}
 use Rattle.core_meaning.specs.declared.node.VarId.{VarId}
 use Rattle.core_meaning.specs.declared.node.Core.{Core}
 use Rattle.core_meaning.specs.declared.node.CoreKind.{CoreKind}
@@ -98,7 +98,7 @@ module _ (sums : Bool) (texts : Texts) where
   pub document_runs : (core x : Core) (id : TextId) → core.kind ≡ k.Call f.Doc (x ∷ []) → x.kind ≡ k.Lit (a.Str id) → Runs sums texts core → (sums ≡ false) × (is_given (length texts) id ≡ true)
   document_runs core x id e i r =
       let forms = and_parts (not sums) (is_name (one_core (core_of texts x) no_cores)) (sym (ap (has_forms sums) (is_call texts core f.Doc (x ∷ []) e)) ∙ r.forms) in
-      (not_false sums forms.0, stays-given texts id (λ later g. text_part x.offset x.offset _ _ (sym (is_lit later x (a.Str id) i) ∙ name later (r.fixed later g) ∙ is_lit texts x (a.Str id) i)))
+      (not_false sums forms.0, stays_given texts id (λ later g. text_part x.offset x.offset _ _ (sym (is_lit later x (a.Str id) i) ∙ name later (r.fixed later g) ∙ is_lit texts x (a.Str id) i)))
     where
       name : (later : Texts) → core_of later core ≡ core_of texts core → core_of later x ≡ core_of texts x
       name later s = name_part core.offset core.offset f.Doc _ _ (sym (is_call later core f.Doc (x ∷ []) e) ∙ s ∙ is_call texts core f.Doc (x ∷ []) e)

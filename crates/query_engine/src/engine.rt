@@ -13,8 +13,9 @@ ghost use Rattle.doc_table.specs.NodeRules.{Docs};
 ghost use Rattle.doc_table.specs.Given.{trees_given};
 ghost use Rattle.doc_table.specs.Stores.{AreGiven};
 
+use crate::evaluate::{EvalFault, Evaluator};
 use crate::fault::ParseFault;
-use crate::forms::is_evaluated;
+use crate::forms::{has_forms, is_evaluated};
 use crate::grammar::parse;
 use crate::normal::normalise;
 use crate::scope::first_unbound;
@@ -24,6 +25,7 @@ use doc_table::Store;
 use std::alloc::Global;
 use thiserror::Error;
 use xq_base::{Code, Pool};
+use xq_serial::{SerialFault, serialise};
 
 /// Why a query isn't compiled.
 #[derive(Debug, Drop, Error)]
@@ -121,7 +123,28 @@ pub fn answer(
     requires names { AreGiven pool.now store.now.docs }
     ensures { Answers (documents_in pool.now store.now) (expr_of (core_of pool.now core.now)) result }
 {
-    Err(AnswerFault::NoMemory)
+    let sums = has_forms(true, core, pool);
+    let evaluator = Evaluator {
+        alloc,
+        store,
+        pool,
+        sums,
+    };
+    match evaluator.eval(core, 0, &[]) {
+        Err(EvalFault::NoMemory) => Err(AnswerFault::NoMemory),
+        Err(EvalFault::Reached(failed)) => Err(AnswerFault::Dynamic {
+            code: failed.code,
+            offset: Some(failed.offset),
+        }),
+        Ok(found) => match serialise(alloc, found.items.as_slice(), store, pool) {
+            Ok(bytes) => Ok(bytes),
+            Err(SerialFault::Attribute { .. }) => Err(AnswerFault::Dynamic {
+                code: Code::SENR0001,
+                offset: None,
+            }),
+            Err(SerialFault::NoMemory) => Err(AnswerFault::NoMemory),
+        },
+    }
 }
 
 /// A text has at most one meaning over documents, and the static rules either refuse it or accept it.

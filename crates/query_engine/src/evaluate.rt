@@ -1,7 +1,8 @@
 //! The value of a Core, or its first failure: the plain evaluator, which goes by the definition.
-ghost use Rattle.std.specs.Prelude.{◌≡◌, pos, ◌∷◌, ◌++◌, ◌+◌, [], List, IfOk, IfErr, true, false, length};
+ghost use Rattle.std.specs.Prelude.{◌≡◌, pos, ◌∷◌, ◌++◌, ◌+◌, [], List, IfOk, IfErr, IfSome, true, false, length};
 ghost use Rattle.xq_base.specs.Answers.{check_rank};
 ghost use Rattle.xq_base.specs.declared.fun.Fun.TheVariants as fun;
+ghost use Rattle.xq_base.specs.declared.item.Atom.TheVariants as atom;
 ghost use Rattle.xq_base.specs.declared.item.Item.TheVariants as held;
 ghost use Rattle.doc_table.specs.Documents.{documents_in};
 ghost use Rattle.doc_table.proofs.Documents.{root_ref};
@@ -13,6 +14,7 @@ ghost use Rattle.doc_table.specs.StoredItems.{meanings, trees_of};
 ghost use Rattle.doc_table.specs.Tree.{text_in};
 ghost use Rattle.doc_table.specs.Values.{Items};
 ghost use Rattle.core_meaning.specs.Erasure.{core_of};
+ghost use Rattle.core_meaning.specs.declared.node.CoreKind.TheVariants as form;
 ghost use Rattle.core_meaning.specs.PlainCore as p;
 ghost use Rattle.core_meaning.specs.Size.{nodes};
 ghost use Rattle.query_engine.specs.declared.evaluate.EvalFault.TheVariants.{NoMemory};
@@ -221,6 +223,19 @@ fn extended(alloc: Global, env: &[Binding], inner: Binding) -> Result<Vec<Bindin
     Ok(found)
 }
 
+/// The number of a literal text.
+fn literal_text(core: &Core) -> Option<TextId>
+    ensures { IfSome result (λ id. core.now.kind ≡ form.Lit (atom.Str id)) }
+{
+    match &core.kind {
+        CoreKind::Lit(value) => match *value {
+            Atom::Str(id) => Some(id),
+            _ => None,
+        },
+        _ => None,
+    }
+}
+
 /// One turn more of a loop.
 fn one_more(found: Found, turn: Result<Value, EvalFault>) -> Result<Found, EvalFault>
     ensures ok { IfOk result (IsStep found turn) }
@@ -281,17 +296,22 @@ impl<'a> Evaluator<'a> {
                 seq,
                 body,
             } => self.each((*var, *pos), seq.get(), body.get(), site, env),
-            CoreKind::Call(Fun::Add, operands) => match operands.as_slice() {
-                [first, second] => self.sum(first, second, core.offset, site, env),
-                _ => Err(EvalFault::NoMemory),
-            },
-            CoreKind::Call(Fun::Doc, arguments) => match arguments.as_slice() {
-                [name] => match &name.kind {
-                    CoreKind::Lit(Atom::Str(id)) => self.document(*id, core.offset, site),
+            // A Core that runs has no other calls.
+            CoreKind::Call(fun, arguments) => match *fun {
+                Fun::Add => match arguments.as_slice() {
+                    [first, second] => self.sum(first, second, core.offset, site, env),
+                    _ => Err(EvalFault::NoMemory),
+                },
+                Fun::Doc => match arguments.as_slice() {
+                    [name] => match literal_text(name) {
+                        Some(id) => self.document(id, core.offset, site),
+                        None => Err(EvalFault::NoMemory),
+                    },
                     _ => Err(EvalFault::NoMemory),
                 },
                 _ => Err(EvalFault::NoMemory),
             },
+            // No other form runs.
             _ => Err(EvalFault::NoMemory),
         }
     }

@@ -29,7 +29,7 @@ fn is_name(arguments: &[Core], texts: &Pool) -> bool
 
 /// Integers, sequences and bindings, with sums and without documents, or the other way round.
 #[cycle(forms)]
-fn has_forms(sums: bool, core: &Core, texts: &Pool) -> bool
+pub fn has_forms(sums: bool, core: &Core, texts: &Pool) -> bool
     ensures { result ≡ spec.has_forms sums (core_of texts.now core.now) }
 {
     match &core.kind {
