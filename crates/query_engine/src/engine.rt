@@ -131,18 +131,22 @@ pub fn answer(
         sums,
     };
     match evaluator.eval(core, 0, &[]) {
-        Err(EvalFault::NoMemory) => Err(AnswerFault::NoMemory),
-        Err(EvalFault::Reached(failed)) => Err(AnswerFault::Dynamic {
-            code: failed.code,
-            offset: Some(failed.offset),
-        }),
+        Err(fault) => match fault {
+            EvalFault::NoMemory => Err(AnswerFault::NoMemory),
+            EvalFault::Reached(failed) => Err(AnswerFault::Dynamic {
+                code: failed.code,
+                offset: Some(failed.offset),
+            }),
+        },
         Ok(found) => match serialise(alloc, found.items.as_slice(), store, pool) {
             Ok(bytes) => Ok(bytes),
-            Err(SerialFault::Attribute { .. }) => Err(AnswerFault::Dynamic {
-                code: Code::SENR0001,
-                offset: None,
-            }),
-            Err(SerialFault::NoMemory) => Err(AnswerFault::NoMemory),
+            Err(fault) => match fault {
+                SerialFault::NoMemory => Err(AnswerFault::NoMemory),
+                SerialFault::Attribute { .. } => Err(AnswerFault::Dynamic {
+                    code: Code::SENR0001,
+                    offset: None,
+                }),
+            },
         },
     }
 }
