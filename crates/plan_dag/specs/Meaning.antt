@@ -38,12 +38,16 @@ module _ {C : Type 0} where
   abbrev pub table_at : List (Table C) → OpId → Table C
   table_at ts i = slice_index_or ts i.0 no_table
 
+  -- the cell of a row in a column, or this one, where the row has none there
+  abbrev pub cell_or : C → List Col → Col → List C → C
+  cell_or d [] c r = d
+  cell_or d (k ∷ ks) c [] = d
+  cell_or d (k ∷ ks) c (v ∷ vs) = cond (col_eq k c) v (cell_or d ks c vs)
+
 module _ {C : Type 0} (R : Rules C) where
-  -- the cell of a row in a column
+  -- the cell of a row in a column; every column that a valid plan names is there
   abbrev pub cell : List Col → Col → List C → C
-  cell [] c r = R.int (pos 0)
-  cell (k ∷ ks) c [] = R.int (pos 0)
-  cell (k ∷ ks) c (v ∷ vs) = cond (col_eq k c) v (cell ks c vs)
+  cell cs c r = cell_or (R.int (pos 0)) cs c r
 
   abbrev pub cells : List Col → List Col → List C → List C
   cells cs ds r = map (λ d. cell cs d r) ds
