@@ -8,7 +8,7 @@ use Rattle.xq_ast.specs.declared.query.Declaration.TheVariants as declaration_
 use Rattle.xq_ast.specs.Trees.{Name, Variable, Tree, Query, Version, Prolog, Declaration, Param}
 use Rattle.xq_ast.specs.Look.{syms}
 use Rattle.xq_ast.specs.Phrases.{deep}
-use Rattle.xq_ast.specs.Rules.{make, many, maybe, either, cut, single, blanks, stays, Language, ◌&◌, ◌◁◌, ◌▷◌}
+use Rattle.xq_ast.specs.Rules.{make, many, maybe, either, prefer, cut, single, blanks, stays, Language, ◌&◌, ◌◁◌, ◌▷◌}
 use Rattle.xq_ast.specs.Terminals.{Rule, one, sign, operand, operator, ahead, place, name, string, left, listed, expr, block}
 use Rattle.xq_ast.specs.Types.{typ}
 use Rattle.xq_ast.specs.Primaries.{left_signs}
@@ -102,7 +102,7 @@ declarations = make prolog_of & many setter & many declaration ◁ ahead (syms P
 
 -- Prolog (section 4, production 6); left out: a module's declaration in its place
 unfoldable pub prolog : Rule Prolog
-prolog = either (one Prologue k.Module) (left Prologue (k.Module ∷ [])) declarations
+prolog = prefer (one Prologue k.Module) (left Prologue (k.Module ∷ [])) declarations
 
 abbrev pub query_of : Option Version → Prolog → Tree → Query
 query_of v p e = record { version = v; prolog = p; body = e }
