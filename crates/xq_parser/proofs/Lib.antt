@@ -1,1 +1,2 @@
 pub mod AllGood
+pub mod Worked
