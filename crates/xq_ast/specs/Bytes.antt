@@ -1,5 +1,5 @@
 -- A text as the list of its bytes in UTF-8: bytes, characters, runs, white space and comments. A place is an offset into it.
-use Rattle.std.specs.Prelude.{ℕ, zero, suc, ◌+◌, ◌-◌, ◌*◌, ◌≤◌, Bool, not, ◌&&◌, ◌||◌, ◌==◌, List, [], ◌∷◌, length, get_or, Option, Some, None, nat_le, nat_lt, if◌then◌else◌}
+use Rattle.std.specs.Prelude.{ℕ, zero, suc, ◌+◌, ◌-◌, ◌*◌, Bool, true, false, not, ◌&&◌, ◌||◌, ◌==◌, List, [], ◌∷◌, length, get_or, Option, Some, None, nat_le, nat_lt, if◌then◌else◌}
 use Rattle.xq_base.specs.Chars.{is_name_char, is_name_start}
 
 -- the byte at a place; behind the end it is 0, which is no Char
@@ -10,14 +10,17 @@ byte text at = get_or text at 0
 abbrev pub width : ℕ → ℕ
 width b = if nat_lt b 192 then 1 else if nat_lt b 224 then 2 else if nat_lt b 240 then 3 else 4
 
--- the code point of the character at a place (The Unicode Standard, section 3.9, table 3-6)
+-- the code point of so many bytes and one more
 abbrev pub two_bytes : List ℕ → ℕ → ℕ → ℕ
 two_bytes text at high = high * 64 + (byte text at - 128)
 
+-- the code point of the character at a place (The Unicode Standard, section 3.9, table 3-6); where the text ends before it
+-- does it is 0, which is no Char
 abbrev pub char_at : List ℕ → ℕ → ℕ
 char_at text at =
     let b = byte text at in
-    if nat_lt b 192 then b
+    if nat_lt (length text) (at + width b) then 0
+    else if nat_lt b 192 then b
     else if nat_lt b 224 then two_bytes text (at + 1) (b - 192)
     else if nat_lt b 240 then two_bytes text (at + 2) (two_bytes text (at + 1) (b - 224))
     else two_bytes text (at + 3) (two_bytes text (at + 2) (two_bytes text (at + 1) (b - 240)))
@@ -97,7 +100,7 @@ start text at = skip_from text (length text) (record { depth = 0; back = at; at 
 
 -- these bytes stand here
 abbrev pub follows : List ℕ → List ℕ → ℕ → Bool
-follows [] text at = Rattle.std.specs.Prelude.true
+follows [] text at = true
 follows (c ∷ cs) text at = byte text at == c && follows cs text (at + 1)
 
 -- the first place from here on, of so many, where these bytes stand
@@ -110,6 +113,6 @@ find word text at = found word text (length text - at) at
 
 -- two lists of bytes are the same
 abbrev pub same : List ℕ → List ℕ → Bool
-same [] [] = Rattle.std.specs.Prelude.true
+same [] [] = true
 same (x ∷ xs) (y ∷ ys) = x == y && same xs ys
-same _ _ = Rattle.std.specs.Prelude.false
+same _ _ = false
