@@ -102,6 +102,20 @@ abbrev pub next_word : List ℕ → Option Token → List ℕ
 next_word text None = []
 next_word text (Some x) = if code (of_kind x.kind) == code k.Name then word_of text x else []
 
+abbrev pub piece_look : Option Piece → Look
+piece_look None = k.Nothing
+piece_look (Some x) = of_piece x.kind
+
+-- in a tag, white space before a name is of its own class
+abbrev pub gap : Look → Look
+gap k.Name = k.Gap
+gap _ = k.White
+
+-- what `declare` begins, by the next name
+abbrev pub declared : List ℕ → Look
+declared [] = k.Body
+declared (c ∷ cs) = word_look declared_words k.LeftOut (c ∷ cs)
+
 module _ (text : List ℕ) where
   -- the token that comes next; the mode matters to none that is asked for
   abbrev pub next : ℕ → Option Token
@@ -154,11 +168,6 @@ module _ (text : List ℕ) where
   abbrev pub tested_name : Look → List ℕ → ℕ → Look
   tested_name other w to = if is_next t.Open to then kind_look other w to else k.Name
 
-  -- what `declare` begins, by the next name
-  abbrev pub declared : List ℕ → Look
-  declared [] = k.Body
-  declared (c ∷ cs) = word_look declared_words k.LeftOut (c ∷ cs)
-
   -- a name where a declaration may stand
   abbrev pub prologue_name : List ℕ → ℕ → Look
   prologue_name w to =
@@ -187,15 +196,6 @@ module _ (text : List ℕ) where
   abbrev pub prologue_look : Option Token → Look
   prologue_look None = k.Body
   prologue_look (Some x) = if code (of_kind x.kind) == code k.Name then name_look Prologue (word_of text x) x.end else k.Body
-
-  abbrev pub piece_look : Option Piece → Look
-  piece_look None = k.Nothing
-  piece_look (Some x) = of_piece x.kind
-
-  -- in a tag, white space before a name is of its own class
-  abbrev pub gap : Look → Look
-  gap k.Name = k.Gap
-  gap _ = k.White
 
   abbrev pub tag_look : Option Piece → Look
   tag_look None = k.Nothing
