@@ -1,12 +1,13 @@
 -- A token takes some of the text, and begins inside it.
 use Rattle.std.proofs.Common.{◌≡◌, ℕ, zero, suc, ◌+◌, ◌-◌, ◌<◌, ◌≤◌, Bool, true, false, not, ◌&&◌, ◌||◌, ◌==◌, cond, List, [], ◌∷◌, length, Option, Some, None, option_map, nat_le, nat_lt, codes, slice_range, refl, arith}
 use Rattle.std.proofs.lemmas.Grind.{common_steps}
+use Rattle.xq_ast.specs.declared.token.Skip.{Skip}
 use Rattle.xq_ast.specs.declared.token.Mode.{Mode}
 use Rattle.xq_ast.specs.declared.token.Mode.TheVariants as m
 use Rattle.xq_ast.specs.declared.token.Token.{Token}
 use Rattle.xq_ast.specs.declared.token.TokenKind.{TokenKind}
 use Rattle.xq_ast.specs.declared.token.TokenKind.TheVariants as k
-use Rattle.xq_ast.specs.Bytes.{byte, width, char_at, is_digit, is_hex_digit, goes_on_ncname, ends, run_end, char_ends, chars_end, Skip, start, skip_from, skip_step, skip_done, from_option, follows}
+use Rattle.xq_ast.specs.Bytes.{byte, width, char_at, is_digit, is_hex_digit, goes_on_ncname, ends, run_end, char_ends, chars_end, start, skip_from, skip_step, skip_done, from_option, follows}
 use Rattle.xq_ast.specs.Values.{reference, entity, numbered, number, string_from, string_end}
 use Rattle.xq_ast.specs.Tokens.{token, token_here, token_to, name, ncname_end, name_end, integer, star, less, sign, plain_sign, signed, quoted}
 

@@ -1,5 +1,6 @@
 -- A text as the list of its bytes in UTF-8: bytes, characters, runs, white space and comments. A place is an offset into it.
-use Rattle.std.specs.Prelude.{ℕ, zero, suc, ◌+◌, ◌-◌, ◌*◌, Bool, true, false, not, ◌&&◌, ◌||◌, ◌==◌, List, [], ◌∷◌, length, get_or, Option, Some, None, nat_le, nat_lt, if◌then◌else◌}
+use Rattle.std.specs.Prelude.{ℕ, zero, suc, ◌+◌, ◌-◌, ◌*◌, ◌%◌, Bool, true, false, not, ◌&&◌, ◌||◌, ◌==◌, List, [], ◌∷◌, length, get_or, Option, Some, None, nat_le, nat_lt, if◌then◌else◌}
+use Rattle.xq_ast.specs.declared.token.Skip.{Skip}
 use Rattle.xq_base.specs.Chars.{is_name_char, is_name_start}
 
 -- the byte at a place; behind the end it is 0, which is no Char
@@ -10,20 +11,19 @@ byte text at = get_or text at 0
 abbrev pub width : ℕ → ℕ
 width b = if nat_lt b 192 then 1 else if nat_lt b 224 then 2 else if nat_lt b 240 then 3 else 4
 
--- the code point of so many bytes and one more
-abbrev pub two_bytes : List ℕ → ℕ → ℕ → ℕ
-two_bytes text at high = high * 64 + (byte text at - 128)
+-- the number that a code point's bytes write, and six bits more (The Unicode Standard, section 3.9, table 3-6)
+abbrev pub more_bits : List ℕ → ℕ → ℕ → ℕ
+more_bits text at high = high * 64 + byte text at % 64
 
--- the code point of the character at a place (The Unicode Standard, section 3.9, table 3-6); where the text ends before it
--- does it is 0, which is no Char
+-- the code point of the character at a place; where the text ends before it does it is 0, which is no Char
 abbrev pub char_at : List ℕ → ℕ → ℕ
 char_at text at =
     let b = byte text at in
     if nat_lt (length text) (at + width b) then 0
     else if nat_lt b 192 then b
-    else if nat_lt b 224 then two_bytes text (at + 1) (b - 192)
-    else if nat_lt b 240 then two_bytes text (at + 2) (two_bytes text (at + 1) (b - 224))
-    else two_bytes text (at + 3) (two_bytes text (at + 2) (two_bytes text (at + 1) (b - 240)))
+    else if nat_lt b 224 then more_bits text (at + 1) (b % 32)
+    else if nat_lt b 240 then more_bits text (at + 2) (more_bits text (at + 1) (b % 16))
+    else more_bits text (at + 3) (more_bits text (at + 2) (more_bits text (at + 1) (b % 8)))
 
 -- S of one byte (XML 1.0, section 2.3, production 3)
 abbrev pub is_white : ℕ → Bool
@@ -57,12 +57,6 @@ char_ends is text (suc n) at = if is (char_at text at) then char_ends is text n 
 
 abbrev pub chars_end : (ℕ → Bool) → List ℕ → ℕ → ℕ
 chars_end is text at = char_ends is text (length text - at) at
-
--- how far white space and comments are passed over: how many comments are open, where the outer one begins, the place
-pub record Skip : Type 0 where
-  pub depth : ℕ
-  pub back : ℕ
-  pub at : ℕ
 
 abbrev pub skip_done : Skip → ℕ
 skip_done s = if s.depth == 0 then s.at else s.back

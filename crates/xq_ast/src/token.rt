@@ -152,3 +152,12 @@ pub struct Piece {
     pub start: usize,
     pub end: usize,
 }
+
+/// How far white space and comments are passed over: how many comments are open, where the outer one
+/// begins, and the place.
+#[derive(Clone, Copy, Debug, PartialEq, Eq)]
+pub struct Skip {
+    pub depth: usize,
+    pub back: usize,
+    pub at: usize,
+}
