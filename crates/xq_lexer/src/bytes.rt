@@ -216,3 +216,34 @@ fn skip_step(text: &[u8], skip: Skip) -> Option<Skip>
         at: at + 1,
     })
 }
+
+/// Where the run of characters of a Name ends, or of an NCName, which have no colon.
+#[tactic(auto, using(crate::proofs::Turns::one_more, crate::proofs::Turns::no_more, crate::proofs::Scalars::some_char), unfolding(xq_ast::specs::Bytes::char_ends))]
+pub fn name_run_end(with_colon: bool, text: &[u8], at: usize) -> usize
+    requires { at ≤ length text.now }
+    ensures end { result ≡ spec.chars_end (name_test with_colon) text.now at }
+    ensures within { result ≤ length text.now }
+{
+    let mut place = at;
+    for _turn in at..text.len() {
+        if !goes_on(with_colon, char_at(text, place)) {
+            return place;
+        }
+        place += width(byte(text, place));
+    }
+    place
+}
+
+/// Whether these bytes stand at a place.
+pub fn follows(word: &[u8], text: &[u8], at: usize) -> bool
+    requires place { at ≤ length text.now }
+    requires short { length word.now ≤ 16 }
+    ensures { result ≡ spec.follows word.now text.now at }
+{
+    for i in 0..word.len() {
+        if byte(text, at + i) != word[i] {
+            return false;
+        }
+    }
+    true
+}
