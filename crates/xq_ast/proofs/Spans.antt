@@ -8,8 +8,8 @@ use Rattle.xq_ast.specs.declared.token.Token.{Token}
 use Rattle.xq_ast.specs.declared.token.TokenKind.{TokenKind}
 use Rattle.xq_ast.specs.declared.token.TokenKind.TheVariants as k
 use Rattle.xq_ast.specs.Bytes.{byte, width, char_at, is_digit, is_hex_digit, goes_on_ncname, ends, run_end, char_ends, chars_end, start, skip_from, skip_step, skip_done, from_option, follows}
-use Rattle.xq_ast.specs.Values.{reference, entity, numbered, number, string_from, string_end}
-use Rattle.xq_ast.specs.Tokens.{token, token_here, token_to, name, ncname_end, name_end, integer, star, less, sign, plain_sign, signed, quoted}
+use Rattle.xq_ast.specs.Values.{reference, entity, numbered, number, string_step, string_next, string_from, string_end}
+use Rattle.xq_ast.specs.Tokens.{token, token_here, token_to, name, ncname_end, name_end, integer, star, less, sign, doubled, plain_sign, signed, quoted}
 
 pub ends_ge : (is : ℕ → Bool) (text : List ℕ) (n at : ℕ) → at ≤ ends is text n at
 unfolding ends
@@ -106,8 +106,24 @@ plain_len b = grind (arith, common_steps)
 less_len : (next : ℕ) (mode : Mode) → 0 < (less next mode).1
 less_len next mode = grind (arith, common_steps)
 
+doubled_len : (b next : ℕ) → 0 < len_of (doubled b next)
+doubled_len b next = grind (arith, common_steps, plain_len)
+
 sign_len : (b next : ℕ) (mode : Mode) → 0 < len_of (sign b next mode)
-sign_len b next mode = grind (arith, common_steps, plain_len, less_len)
+sign_len b next mode = step (b == 40) (next == 35) (next == 58) (b == 33) (next == 61) (b == 60) (b == 62) (next == 62) (less next mode) (doubled b next) (less_len next mode) (doubled_len b next)
+  where
+    step : (b1 n1 n2 b2 n3 b3 b4 n4 : Bool) (x : TokenKind × ℕ) (o : Option (TokenKind × ℕ)) → 0 < x.1 → 0 < len_of o
+        → 0 < len_of (cond b1 (cond n1 (Some (k.Pragma, 2)) (cond n2 None (Some (k.Open, 1)))) (cond b2 (cond n3 (Some (k.Unequal, 2)) None) (cond b3 (Some x) (cond b4 (cond n3 (Some (k.AtLeast, 2)) (cond n4 (Some (k.Follows, 2)) (Some (k.Greater, 1)))) o))))
+    step true true n2 b2 n3 b3 b4 n4 x o h g = omega arith
+    step true false true b2 n3 b3 b4 n4 x o h g = omega arith
+    step true false false b2 n3 b3 b4 n4 x o h g = omega arith
+    step false n1 n2 true true b3 b4 n4 x o h g = omega arith
+    step false n1 n2 true false b3 b4 n4 x o h g = omega arith
+    step false n1 n2 false n3 true b4 n4 x o h g = h
+    step false n1 n2 false true false true n4 x o h g = omega arith
+    step false n1 n2 false false false true true x o h g = omega arith
+    step false n1 n2 false false false true false x o h g = omega arith
+    step false n1 n2 false n3 false false n4 x o h g = g
 
 signed_ge : (at : ℕ) (o : Option (TokenKind × ℕ)) → 0 < len_of o → at < end_or at (option_map (λ (x : TokenKind × ℕ). token_to x.0 at (at + x.1)) o)
 signed_ge at None h = omega arith
@@ -153,27 +169,38 @@ reference_ge text at =
     step false true x y z h g i = g
     step false false x y z h g i = i
 
+-- the place that a step in a string comes to, or the next one
+abbrev step_or : ℕ → Option (Bool × ℕ) → ℕ
+step_or at None = at + 1
+step_or at (Some s) = s.1
+
+string_step_ge : (quote : ℕ) (text : List ℕ) (at : ℕ) → at < step_or at (string_step quote text at)
+string_step_ge quote text at =
+    step (nat_le (length text) at) (byte text at == quote) (byte text (at + 1) == quote) (byte text at == 38) (reference text at) (reference_ge text at)
+  where
+    step : (b1 b2 b3 b4 : Bool) (o : Option (ℕ × ℕ)) → at < behind_or at o
+        → at < step_or at (cond b1 None (cond b2 (cond b3 (Some (false, at + 2)) (Some (true, at + 1))) (cond b4 (option_map (λ (r : ℕ × ℕ). (false, r.1)) o) (Some (false, at + 1)))))
+    step true b2 b3 b4 o h = omega arith
+    step false true true b4 o h = omega arith
+    step false true false b4 o h = omega arith
+    step false false b3 true None h = omega arith
+    step false false b3 true (Some r) h = h
+    step false false b3 false o h = omega arith
+
 string_ge : (quote : ℕ) (text : List ℕ) (n at : ℕ) → at < place_or at (string_from quote text n at)
 unfolding string_from
 string_ge quote text zero at = omega arith
-string_ge quote text (suc n) at = step (nat_le (length text) at) (byte text at == quote) (byte text (at + 1) == quote) (byte text at == 38) (string_from quote text n (at + 2)) (string_from quote text n (at + 1)) (from_option (reference text at) None (λ r. string_from quote text n r.1)) (string_ge quote text n (at + 2)) (string_ge quote text n (at + 1)) (referred (λ e. string_ge quote text n e) (reference text at) (reference_ge text at))
+string_ge quote text (suc n) at = step (λ e. string_ge quote text n e) (string_step quote text at) (string_step_ge quote text at)
   where
-    referred : ((e : ℕ) → e < place_or e (string_from quote text n e)) → (o : Option (ℕ × ℕ)) → at < behind_or at o → at < place_or at (from_option o None (λ r. string_from quote text n r.1))
-    referred next None h = omega arith
-    referred next (Some r) h = further (string_from quote text n r.1) h (next r.1)
-      where
-        further : (o : Option ℕ) → at < r.1 → r.1 < place_or r.1 o → at < place_or at o
-        further None a b = omega arith
-        further (Some e) a b = omega (arith, a, b)
-    later : (more : ℕ) (o : Option ℕ) → at + more < place_or (at + more) o → at < place_or at o
-    later more None h = omega arith
-    later more (Some e) h = omega (arith, h)
-    step : (b1 b2 b3 b4 : Bool) (x y z : Option ℕ) → at + 2 < place_or (at + 2) x → at + 1 < place_or (at + 1) y → at < place_or at z → at < place_or at (cond b1 None (cond b2 (cond b3 x (Some (at + 1))) (cond b4 z y)))
-    step true b2 b3 b4 x y z h g i = omega arith
-    step false true true b4 x y z h g i = later 2 x h
-    step false true false b4 x y z h g i = omega arith
-    step false false b3 true x y z h g i = i
-    step false false b3 false x y z h g i = later 1 y g
+    further : (e : ℕ) (o : Option ℕ) → at < e → e < place_or e o → at < place_or at o
+    further e None a b = omega arith
+    further e (Some f) a b = omega (arith, a, b)
+    done : (b : Bool) (e : ℕ) → ((p : ℕ) → p < place_or p (string_from quote text n p)) → at < e → at < place_or at (cond b (Some e) (string_from quote text n e))
+    done true e next h = h
+    done false e next h = further e (string_from quote text n e) h (next e)
+    step : ((e : ℕ) → e < place_or e (string_from quote text n e)) → (o : Option (Bool × ℕ)) → at < step_or at o → at < place_or at (string_next (string_from quote text n) o)
+    step next None h = omega arith
+    step next (Some s) h = done s.0 s.1 next h
 
 quoted_ge : (at : ℕ) (o : Option ℕ) → at + 1 < place_or (at + 1) o → at < end_or at (option_map (token_to k.Quoted at) o)
 quoted_ge at None h = omega arith

@@ -64,17 +64,22 @@ plain_sign b =
     else if b == 63 then Some (t.Question, 1)
     else None
 
--- the others, by the next byte; "(:" begins a comment, which was passed over if it is whole
+-- a colon, a dot or a slash, by the next byte
+abbrev pub doubled : ℕ → ℕ → Option (TokenKind × ℕ)
+doubled b next =
+    if b == 58 then (if next == 61 then Some (t.Assign, 2) else if next == 58 then Some (t.Colons, 2) else None)
+    else if b == 46 then (if next == 46 then Some (t.Dots, 2) else if is_digit next then Some (t.Fraction, 1) else Some (t.Dot, 1))
+    else if b == 47 then (if next == 47 then Some (t.Slashes, 2) else Some (t.Slash, 1))
+    else plain_sign b
+
+-- all signs, by the next byte; "(:" begins a comment, which was passed over if it is whole
 abbrev pub sign : ℕ → ℕ → Mode → Option (TokenKind × ℕ)
 sign b next mode =
     if b == 40 then (if next == 35 then Some (t.Pragma, 2) else if next == 58 then None else Some (t.Open, 1))
-    else if b == 58 then (if next == 61 then Some (t.Assign, 2) else if next == 58 then Some (t.Colons, 2) else None)
-    else if b == 46 then (if next == 46 then Some (t.Dots, 2) else if is_digit next then Some (t.Fraction, 1) else Some (t.Dot, 1))
-    else if b == 47 then (if next == 47 then Some (t.Slashes, 2) else Some (t.Slash, 1))
     else if b == 33 then (if next == 61 then Some (t.Unequal, 2) else None)
     else if b == 60 then Some (less next mode)
     else if b == 62 then (if next == 61 then Some (t.AtLeast, 2) else if next == 62 then Some (t.Follows, 2) else Some (t.Greater, 1))
-    else plain_sign b
+    else doubled b next
 
 abbrev pub signed : List ℕ → ℕ → Mode → Option Token
 signed text at mode = option_map (λ (x : TokenKind × ℕ). token_to x.0 at (at + x.1)) (sign (byte text at) (byte text (at + 1)) mode)

@@ -1,5 +1,5 @@
 -- What parts of a text stand for: line ends, references, strings.
-use Rattle.std.specs.Prelude.{ℕ, zero, suc, ◌+◌, ◌-◌, ◌*◌, Bool, true, false, ◌&&◌, ◌==◌, List, [], ◌∷◌, ◌++◌, length, Option, Some, None, nat_le, nat_lt, if◌then◌else◌, slice_range, codes}
+use Rattle.std.specs.Prelude.{ℕ, zero, suc, ◌+◌, ◌-◌, ◌*◌, Bool, true, false, ◌&&◌, ◌==◌, List, [], ◌∷◌, ◌++◌, length, Option, Some, None, option_map, nat_le, nat_lt, if◌then◌else◌, slice_range, codes}
 use Rattle.std.specs.Char.{digit_value, encode_utf8}
 use Rattle.xq_base.specs.Chars.{is_char}
 use Rattle.xq_ast.specs.Bytes.{byte, is_digit, is_hex_digit, run_end, follows, from_option}
@@ -44,14 +44,22 @@ reference text at =
     else if follows (codes "&#") text at then numbered 10 text (at + 2) (run_end is_digit text (at + 2))
     else entity text at
 
+-- one step in a string: the place that it comes to, and whether the string ends there
+abbrev pub string_step : ℕ → List ℕ → ℕ → Option (Bool × ℕ)
+string_step quote text at =
+    if nat_le (length text) at then None
+    else if byte text at == quote then (if byte text (at + 1) == quote then Some (false, at + 2) else Some (true, at + 1))
+    else if byte text at == 38 then option_map (λ (r : ℕ × ℕ). (false, r.1)) (reference text at)
+    else Some (false, at + 1)
+
+abbrev pub string_next : (ℕ → Option ℕ) → Option (Bool × ℕ) → Option ℕ
+string_next next None = None
+string_next next (Some s) = if s.0 then Some s.1 else next s.1
+
 -- StringLiteral: the place after the closing quote, in so many steps (XQuery 1.0, section 3.1.1, production 144)
 unfoldable pub string_from : ℕ → List ℕ → ℕ → ℕ → Option ℕ
 string_from quote text zero at = None
-string_from quote text (suc n) at =
-    if nat_le (length text) at then None
-    else if byte text at == quote then (if byte text (at + 1) == quote then string_from quote text n (at + 2) else Some (at + 1))
-    else if byte text at == 38 then from_option (reference text at) None (λ r. string_from quote text n r.1)
-    else string_from quote text n (at + 1)
+string_from quote text (suc n) at = string_next (string_from quote text n) (string_step quote text at)
 
 abbrev pub string_end : List ℕ → ℕ → Option ℕ
 string_end text at = string_from (byte text at) text (length text) (at + 1)

@@ -30,3 +30,7 @@ some_char false zero h = step (is_name_char 0) char_some h
     step true e h = cc
     step false e h = cc
 some_char colon (suc n) h = omega arith
+
+pub start_char : (c : ℕ) → is_name_start c ≡ true → 0 < c
+start_char zero h = let e = sym h ∙ start_some in cc
+start_char (suc n) h = omega arith

@@ -6,7 +6,7 @@ use Rattle.xq_ast.specs.Bytes.{is_white, is_digit, is_hex_digit, goes_on_ncname}
 use Rattle.xq_ast.specs.Pieces.{is_content, is_value}
 use Rattle.xq_lexer.specs.declared.bytes.Class.{Class}
 use Rattle.xq_lexer.specs.declared.bytes.Class.TheVariants.{White, Digit, HexDigit, Content, DoubleQuoted, SingleQuoted}
-use Rattle.std.specs.Prelude.{◌≤◌, List, length, if◌then◌else◌}
+use Rattle.std.specs.Prelude.{◌≤◌, true, ◌&&◌, nat_lt, List, [], ◌∷◌, length, if◌then◌else◌}
 
 -- the test of a class
 abbrev pub class_test : Class → ℕ → Bool
@@ -26,3 +26,8 @@ pub record IsSkip (text : List ℕ) (s : Skip) : Type 0 where
   pub place : s.at ≤ length text
   pub back : s.back ≤ s.at
   pub depth : s.depth ≤ s.at
+
+-- a word in which no byte is 0, so that it stands only inside a text
+abbrev pub has_no_zero : List ℕ → Bool
+has_no_zero [] = true
+has_no_zero (c ∷ cs) = nat_lt 0 c && has_no_zero cs

@@ -3,7 +3,7 @@ ghost use Rattle.std.specs.Prelude.{◌≡◌, ◌≤◌, ◌<◌, ◌+◌, ◌*
 ghost use Rattle.xq_ast.specs.Bytes as spec;
 ghost use Rattle.xq_ast.specs.Pieces;
 ghost use Rattle.xq_base.specs.Chars;
-ghost use Rattle.xq_lexer.specs.Classes.{class_test, name_test, IsSkip};
+ghost use Rattle.xq_lexer.specs.Classes.{class_test, name_test, has_no_zero, IsSkip};
 
 use xq_ast::token::Skip;
 use xq_base::{is_name_char, is_name_start};
@@ -59,10 +59,12 @@ fn is_content(b: u8) -> bool
 /// Where the run of bytes of a class ends.
 #[tactic(auto, using(crate::proofs::Turns::one_more, crate::proofs::Turns::no_more), unfolding(xq_ast::specs::Bytes::ends))]
 pub fn run_end(class: Class, text: &[u8], at: usize) -> usize
-    requires { at ≤ length text.now }
     ensures end { result ≡ spec.run_end (class_test class) text.now at }
-    ensures within { result ≤ length text.now }
+    ensures within { at ≤ length text.now → result ≤ length text.now }
 {
+    if at >= text.len() {
+        return at;
+    }
     for i in at..text.len() {
         if !is_in(class, byte(text, i)) {
             return i;
@@ -120,9 +122,10 @@ pub fn char_at(text: &[u8], at: usize) -> u32
 }
 
 /// Whether a character begins a Name.
-#[tactic(auto, using(crate::proofs::Scalars::no_start))]
+#[tactic(auto, using(crate::proofs::Scalars::no_start, crate::proofs::Scalars::start_char))]
 pub fn starts_name(code: u32) -> bool
-    ensures { result ≡ Chars.is_name_start code }
+    ensures test { result ≡ Chars.is_name_start code }
+    ensures some { result ≡ true → 0 < code }
 {
     match char::from_u32(code) {
         Some(c) => is_name_start(c),
@@ -142,7 +145,8 @@ fn goes_on_name(code: u32) -> bool
 
 /// Whether a character begins an NCName.
 pub fn starts_ncname(code: u32) -> bool
-    ensures { result ≡ spec.begins_ncname code }
+    ensures test { result ≡ spec.begins_ncname code }
+    ensures some { result ≡ true → 0 < code }
 {
     starts_name(code) && code != 58
 }
@@ -220,10 +224,12 @@ fn skip_step(text: &[u8], skip: Skip) -> Option<Skip>
 /// Where the run of characters of a Name ends, or of an NCName, which have no colon.
 #[tactic(auto, using(crate::proofs::Turns::one_more, crate::proofs::Turns::no_more, crate::proofs::Scalars::some_char), unfolding(xq_ast::specs::Bytes::char_ends))]
 pub fn name_run_end(with_colon: bool, text: &[u8], at: usize) -> usize
-    requires { at ≤ length text.now }
     ensures end { result ≡ spec.chars_end (name_test with_colon) text.now at }
-    ensures within { result ≤ length text.now }
+    ensures within { at ≤ length text.now → result ≤ length text.now }
 {
+    if at >= text.len() {
+        return at;
+    }
     let mut place = at;
     for _turn in at..text.len() {
         if !goes_on(with_colon, char_at(text, place)) {
@@ -235,10 +241,11 @@ pub fn name_run_end(with_colon: bool, text: &[u8], at: usize) -> usize
 }
 
 /// Whether these bytes stand at a place.
+#[tactic(auto, using(crate::proofs::Runs::follows_inside))]
 pub fn follows(word: &[u8], text: &[u8], at: usize) -> bool
-    requires place { at ≤ length text.now }
-    requires short { length word.now ≤ 16 }
-    ensures { result ≡ spec.follows word.now text.now at }
+    requires { at ≤ length text.now }
+    ensures follows { result ≡ spec.follows word.now text.now at }
+    ensures inside { has_no_zero word.now ≡ true → result ≡ true → at + length word.now ≤ length text.now }
 {
     for i in 0..word.len() {
         if byte(text, at + i) != word[i] {
@@ -246,4 +253,18 @@ pub fn follows(word: &[u8], text: &[u8], at: usize) -> bool
         }
     }
     true
+}
+
+/// The first place from here on where these bytes stand.
+#[tactic(auto, using(crate::proofs::Turns::one_more, crate::proofs::Turns::no_more), unfolding(xq_ast::specs::Bytes::found))]
+pub fn find(word: &[u8], text: &[u8], at: usize) -> Option<usize>
+    ensures place { result ≡ spec.find word.now text.now at }
+    ensures within { IfSome result (λ e. e ≤ length text.now) }
+{
+    for i in at..text.len() {
+        if follows(word, text, i) {
+            return Some(i);
+        }
+    }
+    None
 }

@@ -2,3 +2,8 @@
 #![tactic(auto)]
 
 pub mod bytes;
+pub mod references;
+mod token;
+
+pub use token::{name_end, ncname_end, token_at};
+pub use xq_ast::token::{Mode, Token, TokenKind};
