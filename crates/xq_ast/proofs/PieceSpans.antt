@@ -10,7 +10,7 @@ use Rattle.xq_ast.specs.declared.token.Piece.{Piece}
 use Rattle.xq_ast.specs.Bytes.{byte, char_at, begins_ncname, is_white, run_end, from_option, follows, found, find}
 use Rattle.xq_ast.specs.Values.{reference}
 use Rattle.xq_ast.specs.Tokens.{name_end}
-use Rattle.xq_ast.specs.Pieces.{piece, piece_to, one, in_place, in_tag, in_value, in_markup, in_content, brace, is_content, is_value, comment_end, cdata_end, instruction_end, target_end, is_target}
+use Rattle.xq_ast.specs.Pieces.{piece, piece_to, one, up_to, referred, run, plain, quote, in_place, in_tag, in_value, in_markup, in_content, brace, is_content, is_value, comment_end, cdata_end, instruction_end, target_end, is_target}
 use Rattle.xq_ast.proofs.Spans.{Spans, ends_ge, char_ends_ge, name_end_ge, reference_ge, behind_or, place_or}
 
 -- where a piece ends, or the next place where there is none
@@ -28,7 +28,7 @@ found_ge word text (suc n) at = step _ (found word text n (at + 1)) (found_ge wo
     step false None h = omega arith
     step false (Some e) h = omega (arith, h)
 
-of_end : (kind : PieceKind) (at : ℕ) (o : Option ℕ) → at < place_or at o → at < piece_or at (option_map (piece_to kind at) o)
+of_end : (kind : PieceKind) (at : ℕ) (o : Option ℕ) → at < place_or at o → at < piece_or at (up_to kind at o)
 of_end kind at None h = omega arith
 of_end kind at (Some e) h = h
 
@@ -95,22 +95,39 @@ in_tag_ge text at = step _ _ _ _ _ _ _ (run_end is_white text (at + 1)) (name_en
     step false false false false false false true e f h g = omega arith
     step false false false false false false false e f h g = omega arith
 
-in_value_ge : (closing : PieceKind) (quote : ℕ) (text : List ℕ) (at : ℕ) → at < piece_or at (in_value closing quote text at)
-in_value_ge closing quote text at =
-    step (byte text at == quote) (byte text (at + 1) == quote) (byte text at == 123 || byte text at == 125) (byte text at == 38) (is_value quote (byte text at)) (brace text at) (option_map (λ (r : ℕ × ℕ). piece_to p.Reference at r.1) (reference text at)) (run_end (is_value quote) text (at + 1)) (brace_ge text at) (of_pair p.Reference at (reference text at) (reference_ge text at)) (ends_ge (is_value quote) text (length text - (at + 1)) (at + 1))
+run_ge : (is : ℕ → Bool) (text : List ℕ) (at : ℕ) → at < piece_or at (run is text at)
+run_ge is text at = step (is (byte text at)) (run_end is text (at + 1)) (ends_ge is text (length text - (at + 1)) (at + 1))
   where
-    step : (b1 b2 b3 b4 b5 : Bool) (x y : Option Piece) (e : ℕ) → at < piece_or at x → at < piece_or at y → at + 1 ≤ e
-        → at < piece_or at (cond b1 (cond b2 (one p.DoubledQuote at (at + 2)) (one closing at (at + 1))) (cond b3 x (cond b4 y (cond b5 (one p.Chars at e) None))))
-    step true true _ _ _ x y e h g i = omega arith
-    step true false _ _ _ x y e h g i = omega arith
-    step false _ true _ _ x y e h g i = h
-    step false _ false true _ x y e h g i = g
-    step false _ false false true x y e h g i = omega (arith, i)
-    step false _ false false false x y e h g i = omega arith
+    step : (b : Bool) (e : ℕ) → at + 1 ≤ e → at < piece_or at (cond b (one p.Chars at e) None)
+    step true e h = omega (arith, h)
+    step false e h = omega arith
+
+plain_ge : (is : ℕ → Bool) (text : List ℕ) (at : ℕ) → at < piece_or at (plain is text at)
+plain_ge is text at =
+    step (byte text at == 123 || byte text at == 125) (byte text at == 38) (brace text at) (referred text at) (run is text at) (brace_ge text at) (of_pair p.Reference at (reference text at) (reference_ge text at)) (run_ge is text at)
+  where
+    step : (b c : Bool) (x y z : Option Piece) → at < piece_or at x → at < piece_or at y → at < piece_or at z → at < piece_or at (cond b x (cond c y z))
+    step true c x y z h g i = h
+    step false true x y z h g i = g
+    step false false x y z h g i = i
+
+quote_ge : (closing : PieceKind) (text : List ℕ) (at : ℕ) → at < (quote closing text at).end
+quote_ge closing text at = step (byte text (at + 1) == byte text at)
+  where
+    step : (b : Bool) → at < (cond {A = Piece} b (piece_to p.DoubledQuote at (at + 2)) (piece_to closing at (at + 1))).end
+    step true = omega arith
+    step false = omega arith
+
+in_value_ge : (closing : PieceKind) (mark : ℕ) (text : List ℕ) (at : ℕ) → at < piece_or at (in_value closing mark text at)
+in_value_ge closing mark text at = step (byte text at == mark) (quote closing text at) (plain (is_value mark) text at) (quote_ge closing text at) (plain_ge (is_value mark) text at)
+  where
+    step : (b : Bool) (x : Piece) (y : Option Piece) → at < x.end → at < piece_or at y → at < piece_or at (cond b (Some x) y)
+    step true x y h g = h
+    step false x y h g = g
 
 in_markup_ge : (text : List ℕ) (at : ℕ) → at < piece_or at (in_markup text at)
 in_markup_ge text at =
-    step (byte text (at + 1) == 47) (follows (codes "<!--") text at) (follows (codes "<![CDATA[") text at) (byte text (at + 1) == 63) (begins_ncname (char_at text (at + 1))) (option_map (piece_to p.Comment at) (comment_end text at)) (option_map (piece_to p.Cdata at) (cdata_end text at)) (option_map (piece_to p.Instruction at) (instruction_end text at)) (of_end p.Comment at (comment_end text at) (comment_ge text at)) (of_end p.Cdata at (cdata_end text at) (cdata_ge text at)) (of_end p.Instruction at (instruction_end text at) (instruction_ge text at))
+    step (byte text (at + 1) == 47) (follows (codes "<!--") text at) (follows (codes "<![CDATA[") text at) (byte text (at + 1) == 63) (begins_ncname (char_at text (at + 1))) (up_to p.Comment at (comment_end text at)) (up_to p.Cdata at (cdata_end text at)) (up_to p.Instruction at (instruction_end text at)) (of_end p.Comment at (comment_end text at) (comment_ge text at)) (of_end p.Cdata at (cdata_end text at) (cdata_ge text at)) (of_end p.Instruction at (instruction_end text at) (instruction_ge text at))
   where
     step : (b1 b2 b3 b4 b5 : Bool) (x y z : Option Piece) → at < piece_or at x → at < piece_or at y → at < piece_or at z
         → at < piece_or at (cond b1 (one p.EndTagStart at (at + 2)) (cond b2 x (cond b3 y (cond b4 z (cond b5 (one p.TagStart at (at + 1)) None)))))
@@ -122,16 +139,11 @@ in_markup_ge text at =
     step false false false false false x y z h g i = omega arith
 
 in_content_ge : (text : List ℕ) (at : ℕ) → at < piece_or at (in_content text at)
-in_content_ge text at =
-    step (byte text at == 60) (byte text at == 123 || byte text at == 125) (byte text at == 38) (is_content (byte text at)) (in_markup text at) (brace text at) (option_map (λ (r : ℕ × ℕ). piece_to p.Reference at r.1) (reference text at)) (run_end is_content text (at + 1)) (in_markup_ge text at) (brace_ge text at) (of_pair p.Reference at (reference text at) (reference_ge text at)) (ends_ge is_content text (length text - (at + 1)) (at + 1))
+in_content_ge text at = step (byte text at == 60) (in_markup text at) (plain is_content text at) (in_markup_ge text at) (plain_ge is_content text at)
   where
-    step : (b1 b2 b3 b4 : Bool) (x y z : Option Piece) (e : ℕ) → at < piece_or at x → at < piece_or at y → at < piece_or at z → at + 1 ≤ e
-        → at < piece_or at (cond b1 x (cond b2 y (cond b3 z (cond b4 (one p.Chars at e) None))))
-    step true _ _ _ x y z e h g i j = h
-    step false true _ _ x y z e h g i j = g
-    step false false true _ x y z e h g i j = i
-    step false false false true x y z e h g i j = omega (arith, j)
-    step false false false false x y z e h g i j = omega arith
+    step : (b : Bool) (x y : Option Piece) → at < piece_or at x → at < piece_or at y → at < piece_or at (cond b x y)
+    step true x y h g = h
+    step false x y h g = g
 
 piece_after : (text : List ℕ) (place : DirPlace) (at : ℕ) → at < piece_or at (in_place text place at)
 piece_after text place_.Tag at = in_tag_ge text at

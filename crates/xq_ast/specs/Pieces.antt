@@ -1,6 +1,6 @@
 -- The piece of a direct constructor at a place (XQuery 1.0, sections 3.7.1 and 3.7.2).
 use Rattle.std.specs.Prelude.{ℕ, ◌+◌, ◌-◌, Bool, true, false, not, ◌&&◌, ◌||◌, ◌==◌, List, length, Option, Some, None, option_map, nat_le, if◌then◌else◌, slice_range, codes}
-use Rattle.std.specs.Str.{str_to_ascii_lowercase}
+use Rattle.std.specs.Str.{str_to_ascii_lowercase, bytes_eq}
 use Rattle.xq_base.specs.Chars.{is_name_start, is_name_char}
 use Rattle.xq_ast.specs.declared.token.DirPlace.{DirPlace}
 use Rattle.xq_ast.specs.declared.token.DirPlace.TheVariants.{Tag, DoubleQuoted, SingleQuoted, Content}
@@ -16,6 +16,11 @@ piece_to kind at end = record { kind = kind; start = at; end = end }
 
 abbrev pub one : PieceKind → ℕ → ℕ → Option Piece
 one kind at end = Some (piece_to kind at end)
+
+-- a piece up to a place, where there is one
+abbrev pub up_to : PieceKind → ℕ → Option ℕ → Option Piece
+up_to kind at None = None
+up_to kind at (Some end) = Some (piece_to kind at end)
 
 -- a byte of characters in content that stand for themselves (XQuery 1.0, section 3.7.1, production 148)
 abbrev pub is_content : ℕ → Bool
@@ -47,9 +52,13 @@ target_end text at = chars_end is_name_char text (at + 2)
 abbrev pub target : List ℕ → ℕ → List ℕ
 target text at = slice_range text (at + 2) (target_end text at)
 
--- the name begins as a Name does, and isn't "xml" in any case
+-- "xml" in any case, which names no instruction (XML 1.0, section 2.6, production 17)
+unfoldable pub is_xml : List ℕ → Bool
+is_xml name = bytes_eq (str_to_ascii_lowercase name) (codes "xml")
+
+-- the name begins as a Name does, and isn't "xml"
 abbrev pub is_target : List ℕ → ℕ → Bool
-is_target text at = is_name_start (char_at text (at + 2)) && not (same (str_to_ascii_lowercase (target text at)) (codes "xml"))
+is_target text at = is_name_start (char_at text (at + 2)) && not (is_xml (target text at))
 
 -- PI: where it ends
 abbrev pub instruction_end : List ℕ → ℕ → Option ℕ
@@ -83,33 +92,40 @@ in_tag text at =
     else if b == 47 && byte text (at + 1) == 62 then one p.EmptyTagEnd at (at + 2)
     else None
 
+-- a reference as a piece
+abbrev pub referred : List ℕ → ℕ → Option Piece
+referred text at = option_map (λ (r : ℕ × ℕ). piece_to p.Reference at r.1) (reference text at)
+
+-- a run of bytes that pass a test, where one begins
+abbrev pub run : (ℕ → Bool) → List ℕ → ℕ → Option Piece
+run is text at = if is (byte text at) then one p.Chars at (run_end is text (at + 1)) else None
+
+-- a reference, a brace or a run
+abbrev pub plain : (ℕ → Bool) → List ℕ → ℕ → Option Piece
+plain is text at =
+    if byte text at == 123 || byte text at == 125 then brace text at
+    else if byte text at == 38 then referred text at
+    else run is text at
+
+-- the quote of a value doubled, or its end
+abbrev pub quote : PieceKind → List ℕ → ℕ → Piece
+quote closing text at = if byte text (at + 1) == byte text at then piece_to p.DoubledQuote at (at + 2) else piece_to closing at (at + 1)
+
 abbrev pub in_value : PieceKind → ℕ → List ℕ → ℕ → Option Piece
-in_value closing quote text at =
-    let b = byte text at in
-    if b == quote then (if byte text (at + 1) == quote then one p.DoubledQuote at (at + 2) else one closing at (at + 1))
-    else if b == 123 || b == 125 then brace text at
-    else if b == 38 then option_map (λ (r : ℕ × ℕ). piece_to p.Reference at r.1) (reference text at)
-    else if is_value quote b then one p.Chars at (run_end (is_value quote) text (at + 1))
-    else None
+in_value closing mark text at = if byte text at == mark then Some (quote closing text at) else plain (is_value mark) text at
 
 -- what "<" begins in content
 abbrev pub in_markup : List ℕ → ℕ → Option Piece
 in_markup text at =
     if byte text (at + 1) == 47 then one p.EndTagStart at (at + 2)
-    else if follows (codes "<!--") text at then option_map (piece_to p.Comment at) (comment_end text at)
-    else if follows (codes "<![CDATA[") text at then option_map (piece_to p.Cdata at) (cdata_end text at)
-    else if byte text (at + 1) == 63 then option_map (piece_to p.Instruction at) (instruction_end text at)
+    else if follows (codes "<!--") text at then up_to p.Comment at (comment_end text at)
+    else if follows (codes "<![CDATA[") text at then up_to p.Cdata at (cdata_end text at)
+    else if byte text (at + 1) == 63 then up_to p.Instruction at (instruction_end text at)
     else if begins_ncname (char_at text (at + 1)) then one p.TagStart at (at + 1)
     else None
 
 abbrev pub in_content : List ℕ → ℕ → Option Piece
-in_content text at =
-    let b = byte text at in
-    if b == 60 then in_markup text at
-    else if b == 123 || b == 125 then brace text at
-    else if b == 38 then option_map (λ (r : ℕ × ℕ). piece_to p.Reference at r.1) (reference text at)
-    else if is_content b then one p.Chars at (run_end is_content text (at + 1))
-    else None
+in_content text at = if byte text at == 60 then in_markup text at else plain is_content text at
 
 abbrev pub in_place : List ℕ → DirPlace → ℕ → Option Piece
 in_place text Tag at = in_tag text at

@@ -225,6 +225,7 @@ fn skip_step(text: &[u8], skip: Skip) -> Option<Skip>
 #[tactic(auto, using(crate::proofs::Turns::one_more, crate::proofs::Turns::no_more, crate::proofs::Scalars::some_char), unfolding(xq_ast::specs::Bytes::char_ends))]
 pub fn name_run_end(with_colon: bool, text: &[u8], at: usize) -> usize
     ensures end { result ≡ spec.chars_end (name_test with_colon) text.now at }
+    ensures grows { at ≤ result }
     ensures within { at ≤ length text.now → result ≤ length text.now }
 {
     if at >= text.len() {
@@ -260,6 +261,7 @@ pub fn follows(word: &[u8], text: &[u8], at: usize) -> bool
 pub fn find(word: &[u8], text: &[u8], at: usize) -> Option<usize>
     ensures place { result ≡ spec.find word.now text.now at }
     ensures within { IfSome result (λ e. e ≤ length text.now) }
+    ensures inside { has_no_zero word.now ≡ true → IfSome result (λ e. e + length word.now ≤ length text.now) }
 {
     for i in at..text.len() {
         if follows(word, text, i) {
