@@ -19,7 +19,7 @@ use Rattle.xq_ast.specs.Values.{string_value}
 use Rattle.xq_ast.specs.Tokens.{token}
 use Rattle.xq_ast.specs.Pieces.{piece}
 use Rattle.xq_ast.specs.Codes.{code, due_code}
-use Rattle.xq_ast.specs.Words.{word_look, binding_words, block_words, builder_words, axis_words, kind_words, type_words, reserved_words, left_calls, without_fn, operator_look, declared_words}
+use Rattle.xq_ast.specs.Words.{word_look, binding_words, block_words, builder_words, forward_axes, reverse_axes, kind_words, type_words, reserved_words, call_look, without_fn, operator_look, declared_words}
 
 -- the class of a token by itself
 abbrev pub of_kind : TokenKind → Look
@@ -131,7 +131,7 @@ module _ (text : List ℕ) where
 
   -- a name before "(" where an operand is due
   abbrev pub called : List ℕ → ℕ → Look
-  called w to = kind_look (word_look reserved_words (word_look left_calls k.Callee (without_fn w)) w) w to
+  called w to = kind_look (word_look reserved_words (call_look (without_fn w)) w) w to
 
   -- a name before a name where an operand is due
   abbrev pub before_name : List ℕ → Token → Look
@@ -145,7 +145,7 @@ module _ (text : List ℕ) where
       if code (of_kind x.kind) == code k.Open then called w to
       else if code (of_kind x.kind) == code k.Dollar then word_look binding_words k.Name w
       else if code (of_kind x.kind) == code k.OpenBrace then word_look builder_words (word_look block_words k.Name w) w
-      else if code (of_kind x.kind) == code k.Colons then word_look axis_words k.Name w
+      else if code (of_kind x.kind) == code k.Colons then word_look forward_axes (word_look reverse_axes k.Name w) w
       else if code (of_kind x.kind) == code k.Name then before_name w x
       else k.Name
 

@@ -25,11 +25,15 @@ abbrev pub builder_words : List (List ℕ × Look)
 builder_words = (codes "element", k.ElementBuilder) ∷ (codes "attribute", k.AttributeBuilder) ∷ (codes "processing-instruction", k.InstructionBuilder) ∷ []
 
 -- before "::" (XQuery 1.0, section 3.2.1.1, productions 73 and 76)
-abbrev pub axis_words : List (List ℕ × Look)
-axis_words =
-    (codes "child", k.Axis) ∷ (codes "descendant", k.Axis) ∷ (codes "attribute", k.Axis) ∷ (codes "self", k.Axis) ∷ (codes "descendant-or-self", k.Axis)
-    ∷ (codes "following-sibling", k.Axis) ∷ (codes "following", k.Axis) ∷ (codes "parent", k.Axis) ∷ (codes "ancestor", k.Axis)
-    ∷ (codes "preceding-sibling", k.Axis) ∷ (codes "preceding", k.Axis) ∷ (codes "ancestor-or-self", k.Axis) ∷ (codes "namespace", k.LeftOut) ∷ []
+abbrev pub forward_axes : List (List ℕ × Look)
+forward_axes =
+    (codes "child", k.Axis) ∷ (codes "descendant", k.Axis) ∷ (codes "attribute", k.Axis) ∷ (codes "self", k.Axis)
+    ∷ (codes "descendant-or-self", k.Axis) ∷ (codes "following-sibling", k.Axis) ∷ (codes "following", k.Axis) ∷ []
+
+abbrev pub reverse_axes : List (List ℕ × Look)
+reverse_axes =
+    (codes "parent", k.Axis) ∷ (codes "ancestor", k.Axis) ∷ (codes "preceding-sibling", k.Axis) ∷ (codes "preceding", k.Axis)
+    ∷ (codes "ancestor-or-self", k.Axis) ∷ (codes "namespace", k.LeftOut) ∷ []
 
 -- before "(": the tests by kind (XQuery 1.0, section 2.5.3, production 123)
 abbrev pub kind_words : List (List ℕ × Look)
@@ -49,19 +53,30 @@ reserved_words = (codes "if", k.If) ∷ (codes "typeswitch", k.Typeswitch) ∷ (
 -- functions that are left out, with or without "fn:" (own rule)
 abbrev pub left_calls : List (List ℕ × Look)
 left_calls =
-    (codes "avg", k.LeftOut) ∷ (codes "number", k.LeftOut) ∷ (codes "id", k.LeftOut) ∷ (codes "idref", k.LeftOut) ∷ (codes "collection", k.LeftOut)
-    ∷ (codes "matches", k.LeftOut) ∷ (codes "replace", k.LeftOut) ∷ (codes "tokenize", k.LeftOut) ∷ (codes "upper-case", k.LeftOut)
+    (codes "avg", k.LeftOut) ∷ (codes "number", k.LeftOut) ∷ (codes "id", k.LeftOut) ∷ (codes "idref", k.LeftOut) ∷ (codes "collection", k.LeftOut) ∷ []
+
+abbrev pub left_text_calls : List (List ℕ × Look)
+left_text_calls =
+    (codes "matches", k.LeftOut) ∷ (codes "replace", k.LeftOut) ∷ (codes "tokenize", k.LeftOut) ∷ (codes "upper-case", k.LeftOut)
     ∷ (codes "lower-case", k.LeftOut) ∷ (codes "normalize-unicode", k.LeftOut) ∷ []
+
+-- a function that may be called, or is left out
+abbrev pub call_look : List ℕ → Look
+call_look w = word_look left_calls (word_look left_text_calls k.Callee w) w
 
 abbrev pub without_fn : List ℕ → List ℕ
 without_fn w = if follows (codes "fn:") w 0 then drop 3 w else w
 
 -- where an operator is due: operators
+abbrev pub comparing_words : List (List ℕ × Look)
+comparing_words =
+    (codes "or", k.Or) ∷ (codes "and", k.And) ∷ (codes "eq", k.Eq) ∷ (codes "ne", k.Ne) ∷ (codes "lt", k.Lt) ∷ (codes "le", k.Le)
+    ∷ (codes "gt", k.Gt) ∷ (codes "ge", k.Ge) ∷ (codes "is", k.Is) ∷ []
+
 abbrev pub operator_words : List (List ℕ × Look)
 operator_words =
-    (codes "or", k.Or) ∷ (codes "and", k.And) ∷ (codes "eq", k.Eq) ∷ (codes "ne", k.Ne) ∷ (codes "lt", k.Lt) ∷ (codes "le", k.Le)
-    ∷ (codes "gt", k.Gt) ∷ (codes "ge", k.Ge) ∷ (codes "is", k.Is) ∷ (codes "to", k.To) ∷ (codes "idiv", k.Idiv) ∷ (codes "mod", k.Mod)
-    ∷ (codes "div", k.Div) ∷ (codes "union", k.Union) ∷ (codes "intersect", k.Intersect) ∷ (codes "except", k.Except) ∷ []
+    (codes "to", k.To) ∷ (codes "idiv", k.Idiv) ∷ (codes "mod", k.Mod) ∷ (codes "div", k.Div) ∷ (codes "union", k.Union)
+    ∷ (codes "intersect", k.Intersect) ∷ (codes "except", k.Except) ∷ []
 
 -- and the words of types
 abbrev pub typing_words : List (List ℕ × Look)
@@ -69,10 +84,14 @@ typing_words =
     (codes "instance", k.Instance) ∷ (codes "of", k.Of) ∷ (codes "treat", k.Treat) ∷ (codes "castable", k.Castable) ∷ (codes "cast", k.Cast) ∷ (codes "as", k.As) ∷ []
 
 -- and those inside FLWOR expressions, quantifiers and conditions
+abbrev pub clause_words : List (List ℕ × Look)
+clause_words =
+    (codes "for", k.For) ∷ (codes "let", k.Let) ∷ (codes "in", k.In) ∷ (codes "at", k.At) ∷ (codes "where", k.Where) ∷ (codes "stable", k.Stable)
+    ∷ (codes "order", k.Order) ∷ (codes "by", k.By) ∷ []
+
 abbrev pub inner_words : List (List ℕ × Look)
 inner_words =
-    (codes "for", k.For) ∷ (codes "let", k.Let) ∷ (codes "in", k.In) ∷ (codes "at", k.At) ∷ (codes "where", k.Where) ∷ (codes "stable", k.Stable)
-    ∷ (codes "order", k.Order) ∷ (codes "by", k.By) ∷ (codes "return", k.Return) ∷ (codes "satisfies", k.Satisfies) ∷ (codes "then", k.Then) ∷ (codes "else", k.Else) ∷ []
+    (codes "return", k.Return) ∷ (codes "satisfies", k.Satisfies) ∷ (codes "then", k.Then) ∷ (codes "else", k.Else) ∷ []
 
 abbrev pub key_words : List (List ℕ × Look)
 key_words =
@@ -87,7 +106,8 @@ prolog_words =
 
 -- all of them
 abbrev pub operator_look : List ℕ → Look
-operator_look w = word_look operator_words (word_look typing_words (word_look inner_words (word_look key_words (word_look prolog_words k.Name w) w) w) w) w
+operator_look w =
+    word_look comparing_words (word_look operator_words (word_look typing_words (word_look clause_words (word_look inner_words (word_look key_words (word_look prolog_words k.Name w) w) w) w) w) w) w
 
 -- what `declare` begins before a word (XQuery 1.0, section 4, productions 6 to 26)
 abbrev pub declared_words : List (List ℕ × Look)

@@ -41,7 +41,7 @@ literals :
     × (reading (codes "1E") ≡ Err (cut left_out 0))
     × (reading (codes ".5") ≡ Err (cut left_out 0))
     × (reading (codes "..5") ≡ Err syntax_fault)
-unfolding terminalss_.expr terminalss_.block typess_.plain_test typess_.target typess_.instruction_test typess_.last_argument typess_.named_argument typess_.element_test typess_.attribute_test typess_.kind_test typess_.any_item typess_.item_type typess_.occurs typess_.empty_type typess_.seq_type typess_.typ directs_.value_part directs_.double_quoted directs_.single_quoted directs_.value directs_.equals directs_.attribute directs_.attributes directs_.comment directs_.instruction directs_.direct_here directs_.direct directs_.content_part directs_.end_tag directs_.content directs_.elem primariess_.integer primariess_.literal primariess_.var primariess_.inside primariess_.paren primariess_.dot primariess_.arguments primariess_.call primariess_.build_name primariess_.target_name primariess_.build_content primariess_.named_builder primariess_.instruction_builder primariess_.block_builder primariess_.builder primariess_.primary pathss_.predicate pathss_.test pathss_.axis_step pathss_.at_step pathss_.any_step pathss_.named_step pathss_.up_step pathss_.step_kind pathss_.step pathss_.two pathss_.slashes pathss_.root pathss_.deep_root pathss_.path operatorss_.one_sign operatorss_.unary operatorss_.single_type operatorss_.cast_type operatorss_.cast operatorss_.castable_type operatorss_.castable operatorss_.treat_type operatorss_.treat operatorss_.instance_type operatorss_.instance operatorss_.intersect operatorss_.union operatorss_.times operatorss_.multiplied operatorss_.added operatorss_.range_end operatorss_.range operatorss_.compared_to operatorss_.comparison operatorss_.conjunction operatorss_.disjunction bindingss_.variable bindingss_.position bindingss_.for_bind bindingss_.let_bind bindingss_.for_clause bindingss_.let_clause bindingss_.clause bindingss_.clauses bindingss_.condition bindingss_.descending bindingss_.empty_greatest bindingss_.collation bindingss_.key bindingss_.order bindingss_.flwor bindingss_.quant_bind bindingss_.quantified bindingss_.conditional bindingss_.level grammars_.no_level grammars_.no_element grammars_.encoding grammars_.version grammars_.strip grammars_.setter grammars_.initial grammars_.var_decl grammars_.param grammars_.params grammars_.body grammars_.fun_decl grammars_.declaration grammars_.declarations grammars_.prolog grammars_.query bytes_.ends bytes_.char_ends bytes_.skip_from bytes_.found values_.reference values_.string_from values_.value_from tokens_.token pieces_.piece chars_.is_char chars_.is_name_start chars_.is_name_char single_reads element_reads many_from
+unfolding terminalss_.expr terminalss_.block typess_.plain_test typess_.target typess_.instruction_test typess_.last_argument typess_.named_argument typess_.element_test typess_.attribute_test typess_.kind_test typess_.any_item typess_.item_type typess_.occurs typess_.empty_type typess_.seq_type typess_.typ directs_.value_part directs_.double_quoted directs_.single_quoted directs_.value directs_.equals directs_.attribute directs_.attributes directs_.comment directs_.instruction directs_.direct_here directs_.direct directs_.content_part directs_.end_tag directs_.content directs_.elem primariess_.integer primariess_.literal primariess_.var primariess_.inside primariess_.paren primariess_.dot primariess_.arguments primariess_.call primariess_.build_name primariess_.target_name primariess_.build_content primariess_.named_builder primariess_.instruction_builder primariess_.block_builder primariess_.builder primariess_.primary pathss_.predicate pathss_.test pathss_.axis_step pathss_.at_step pathss_.any_step pathss_.named_step pathss_.up_step pathss_.step_kind pathss_.step pathss_.two pathss_.slashes pathss_.root pathss_.deep_root pathss_.path operatorss_.one_sign operatorss_.unary operatorss_.single_type operatorss_.cast_type operatorss_.cast operatorss_.castable_type operatorss_.castable operatorss_.treat_type operatorss_.treat operatorss_.instance_type operatorss_.instance operatorss_.intersect operatorss_.union operatorss_.times operatorss_.multiplied operatorss_.added operatorss_.range_end operatorss_.range operatorss_.compared_to operatorss_.comparison operatorss_.conjunction operatorss_.disjunction bindingss_.variable bindingss_.position bindingss_.for_bind bindingss_.let_bind bindingss_.for_clause bindingss_.let_clause bindingss_.clause bindingss_.clauses bindingss_.condition bindingss_.descending bindingss_.empty_greatest bindingss_.collation bindingss_.key bindingss_.order bindingss_.flwor bindingss_.quant_bind bindingss_.quantified bindingss_.conditional bindingss_.level grammars_.no_level grammars_.no_element grammars_.encoding grammars_.version grammars_.strip grammars_.setter grammars_.initial grammars_.var_decl grammars_.param grammars_.params grammars_.body grammars_.fun_decl grammars_.declaration grammars_.declarations grammars_.prolog grammars_.query bytes_.ends bytes_.char_ends bytes_.skip_from bytes_.found values_.reference values_.string_from values_.value_from tokens_.token pieces_.piece pieces_.is_xml chars_.is_char chars_.is_name_start chars_.is_name_char single_reads element_reads many_from
 literals = (refl, refl, refl, refl, refl, refl, refl, refl, refl)
 
 strings :
@@ -52,7 +52,7 @@ strings :
     × (reading (codes "\"&x;\"") ≡ Err syntax_fault)
     × (reading (codes "\"&#0;\"") ≡ Err syntax_fault)
     × (reading (codes "\"a&b\"") ≡ Err syntax_fault)
-unfolding terminalss_.expr terminalss_.block typess_.plain_test typess_.target typess_.instruction_test typess_.last_argument typess_.named_argument typess_.element_test typess_.attribute_test typess_.kind_test typess_.any_item typess_.item_type typess_.occurs typess_.empty_type typess_.seq_type typess_.typ directs_.value_part directs_.double_quoted directs_.single_quoted directs_.value directs_.equals directs_.attribute directs_.attributes directs_.comment directs_.instruction directs_.direct_here directs_.direct directs_.content_part directs_.end_tag directs_.content directs_.elem primariess_.integer primariess_.literal primariess_.var primariess_.inside primariess_.paren primariess_.dot primariess_.arguments primariess_.call primariess_.build_name primariess_.target_name primariess_.build_content primariess_.named_builder primariess_.instruction_builder primariess_.block_builder primariess_.builder primariess_.primary pathss_.predicate pathss_.test pathss_.axis_step pathss_.at_step pathss_.any_step pathss_.named_step pathss_.up_step pathss_.step_kind pathss_.step pathss_.two pathss_.slashes pathss_.root pathss_.deep_root pathss_.path operatorss_.one_sign operatorss_.unary operatorss_.single_type operatorss_.cast_type operatorss_.cast operatorss_.castable_type operatorss_.castable operatorss_.treat_type operatorss_.treat operatorss_.instance_type operatorss_.instance operatorss_.intersect operatorss_.union operatorss_.times operatorss_.multiplied operatorss_.added operatorss_.range_end operatorss_.range operatorss_.compared_to operatorss_.comparison operatorss_.conjunction operatorss_.disjunction bindingss_.variable bindingss_.position bindingss_.for_bind bindingss_.let_bind bindingss_.for_clause bindingss_.let_clause bindingss_.clause bindingss_.clauses bindingss_.condition bindingss_.descending bindingss_.empty_greatest bindingss_.collation bindingss_.key bindingss_.order bindingss_.flwor bindingss_.quant_bind bindingss_.quantified bindingss_.conditional bindingss_.level grammars_.no_level grammars_.no_element grammars_.encoding grammars_.version grammars_.strip grammars_.setter grammars_.initial grammars_.var_decl grammars_.param grammars_.params grammars_.body grammars_.fun_decl grammars_.declaration grammars_.declarations grammars_.prolog grammars_.query bytes_.ends bytes_.char_ends bytes_.skip_from bytes_.found values_.reference values_.string_from values_.value_from tokens_.token pieces_.piece chars_.is_char chars_.is_name_start chars_.is_name_char single_reads element_reads many_from
+unfolding terminalss_.expr terminalss_.block typess_.plain_test typess_.target typess_.instruction_test typess_.last_argument typess_.named_argument typess_.element_test typess_.attribute_test typess_.kind_test typess_.any_item typess_.item_type typess_.occurs typess_.empty_type typess_.seq_type typess_.typ directs_.value_part directs_.double_quoted directs_.single_quoted directs_.value directs_.equals directs_.attribute directs_.attributes directs_.comment directs_.instruction directs_.direct_here directs_.direct directs_.content_part directs_.end_tag directs_.content directs_.elem primariess_.integer primariess_.literal primariess_.var primariess_.inside primariess_.paren primariess_.dot primariess_.arguments primariess_.call primariess_.build_name primariess_.target_name primariess_.build_content primariess_.named_builder primariess_.instruction_builder primariess_.block_builder primariess_.builder primariess_.primary pathss_.predicate pathss_.test pathss_.axis_step pathss_.at_step pathss_.any_step pathss_.named_step pathss_.up_step pathss_.step_kind pathss_.step pathss_.two pathss_.slashes pathss_.root pathss_.deep_root pathss_.path operatorss_.one_sign operatorss_.unary operatorss_.single_type operatorss_.cast_type operatorss_.cast operatorss_.castable_type operatorss_.castable operatorss_.treat_type operatorss_.treat operatorss_.instance_type operatorss_.instance operatorss_.intersect operatorss_.union operatorss_.times operatorss_.multiplied operatorss_.added operatorss_.range_end operatorss_.range operatorss_.compared_to operatorss_.comparison operatorss_.conjunction operatorss_.disjunction bindingss_.variable bindingss_.position bindingss_.for_bind bindingss_.let_bind bindingss_.for_clause bindingss_.let_clause bindingss_.clause bindingss_.clauses bindingss_.condition bindingss_.descending bindingss_.empty_greatest bindingss_.collation bindingss_.key bindingss_.order bindingss_.flwor bindingss_.quant_bind bindingss_.quantified bindingss_.conditional bindingss_.level grammars_.no_level grammars_.no_element grammars_.encoding grammars_.version grammars_.strip grammars_.setter grammars_.initial grammars_.var_decl grammars_.param grammars_.params grammars_.body grammars_.fun_decl grammars_.declaration grammars_.declarations grammars_.prolog grammars_.query bytes_.ends bytes_.char_ends bytes_.skip_from bytes_.found values_.reference values_.string_from values_.value_from tokens_.token pieces_.piece pieces_.is_xml chars_.is_char chars_.is_name_start chars_.is_name_char single_reads element_reads many_from
 strings = (refl, refl, refl, refl, refl, refl, refl)
 
 names :
@@ -68,7 +68,7 @@ names :
     × (accepted (codes "$p:x") ≡ true)
     × (reading (codes "a b") ≡ Err syntax_fault)
     × (accepted (codes "-a") ≡ true)
-unfolding terminalss_.expr terminalss_.block typess_.plain_test typess_.target typess_.instruction_test typess_.last_argument typess_.named_argument typess_.element_test typess_.attribute_test typess_.kind_test typess_.any_item typess_.item_type typess_.occurs typess_.empty_type typess_.seq_type typess_.typ directs_.value_part directs_.double_quoted directs_.single_quoted directs_.value directs_.equals directs_.attribute directs_.attributes directs_.comment directs_.instruction directs_.direct_here directs_.direct directs_.content_part directs_.end_tag directs_.content directs_.elem primariess_.integer primariess_.literal primariess_.var primariess_.inside primariess_.paren primariess_.dot primariess_.arguments primariess_.call primariess_.build_name primariess_.target_name primariess_.build_content primariess_.named_builder primariess_.instruction_builder primariess_.block_builder primariess_.builder primariess_.primary pathss_.predicate pathss_.test pathss_.axis_step pathss_.at_step pathss_.any_step pathss_.named_step pathss_.up_step pathss_.step_kind pathss_.step pathss_.two pathss_.slashes pathss_.root pathss_.deep_root pathss_.path operatorss_.one_sign operatorss_.unary operatorss_.single_type operatorss_.cast_type operatorss_.cast operatorss_.castable_type operatorss_.castable operatorss_.treat_type operatorss_.treat operatorss_.instance_type operatorss_.instance operatorss_.intersect operatorss_.union operatorss_.times operatorss_.multiplied operatorss_.added operatorss_.range_end operatorss_.range operatorss_.compared_to operatorss_.comparison operatorss_.conjunction operatorss_.disjunction bindingss_.variable bindingss_.position bindingss_.for_bind bindingss_.let_bind bindingss_.for_clause bindingss_.let_clause bindingss_.clause bindingss_.clauses bindingss_.condition bindingss_.descending bindingss_.empty_greatest bindingss_.collation bindingss_.key bindingss_.order bindingss_.flwor bindingss_.quant_bind bindingss_.quantified bindingss_.conditional bindingss_.level grammars_.no_level grammars_.no_element grammars_.encoding grammars_.version grammars_.strip grammars_.setter grammars_.initial grammars_.var_decl grammars_.param grammars_.params grammars_.body grammars_.fun_decl grammars_.declaration grammars_.declarations grammars_.prolog grammars_.query bytes_.ends bytes_.char_ends bytes_.skip_from bytes_.found values_.reference values_.string_from values_.value_from tokens_.token pieces_.piece chars_.is_char chars_.is_name_start chars_.is_name_char single_reads element_reads many_from
+unfolding terminalss_.expr terminalss_.block typess_.plain_test typess_.target typess_.instruction_test typess_.last_argument typess_.named_argument typess_.element_test typess_.attribute_test typess_.kind_test typess_.any_item typess_.item_type typess_.occurs typess_.empty_type typess_.seq_type typess_.typ directs_.value_part directs_.double_quoted directs_.single_quoted directs_.value directs_.equals directs_.attribute directs_.attributes directs_.comment directs_.instruction directs_.direct_here directs_.direct directs_.content_part directs_.end_tag directs_.content directs_.elem primariess_.integer primariess_.literal primariess_.var primariess_.inside primariess_.paren primariess_.dot primariess_.arguments primariess_.call primariess_.build_name primariess_.target_name primariess_.build_content primariess_.named_builder primariess_.instruction_builder primariess_.block_builder primariess_.builder primariess_.primary pathss_.predicate pathss_.test pathss_.axis_step pathss_.at_step pathss_.any_step pathss_.named_step pathss_.up_step pathss_.step_kind pathss_.step pathss_.two pathss_.slashes pathss_.root pathss_.deep_root pathss_.path operatorss_.one_sign operatorss_.unary operatorss_.single_type operatorss_.cast_type operatorss_.cast operatorss_.castable_type operatorss_.castable operatorss_.treat_type operatorss_.treat operatorss_.instance_type operatorss_.instance operatorss_.intersect operatorss_.union operatorss_.times operatorss_.multiplied operatorss_.added operatorss_.range_end operatorss_.range operatorss_.compared_to operatorss_.comparison operatorss_.conjunction operatorss_.disjunction bindingss_.variable bindingss_.position bindingss_.for_bind bindingss_.let_bind bindingss_.for_clause bindingss_.let_clause bindingss_.clause bindingss_.clauses bindingss_.condition bindingss_.descending bindingss_.empty_greatest bindingss_.collation bindingss_.key bindingss_.order bindingss_.flwor bindingss_.quant_bind bindingss_.quantified bindingss_.conditional bindingss_.level grammars_.no_level grammars_.no_element grammars_.encoding grammars_.version grammars_.strip grammars_.setter grammars_.initial grammars_.var_decl grammars_.param grammars_.params grammars_.body grammars_.fun_decl grammars_.declaration grammars_.declarations grammars_.prolog grammars_.query bytes_.ends bytes_.char_ends bytes_.skip_from bytes_.found values_.reference values_.string_from values_.value_from tokens_.token pieces_.piece pieces_.is_xml chars_.is_char chars_.is_name_start chars_.is_name_char single_reads element_reads many_from
 names = (refl, refl, refl, refl, refl, refl, refl, refl, refl, refl, refl, refl)
 
 wide_names :
@@ -77,7 +77,7 @@ wide_names :
     × (accepted (97 ∷ 47 ∷ 195 ∷ 169 ∷ []) ≡ true)
     × (reading (49 ∷ 32 ∷ 43 ∷ 32 ∷ 100 ∷ 105 ∷ 118 ∷ 195 ∷ 151 ∷ []) ≡ Err syntax_fault)
     × (reading (49 ∷ 32 ∷ 100 ∷ 105 ∷ 118 ∷ 195 ∷ 151 ∷ []) ≡ Err (cut left_out 2))
-unfolding terminalss_.expr terminalss_.block typess_.plain_test typess_.target typess_.instruction_test typess_.last_argument typess_.named_argument typess_.element_test typess_.attribute_test typess_.kind_test typess_.any_item typess_.item_type typess_.occurs typess_.empty_type typess_.seq_type typess_.typ directs_.value_part directs_.double_quoted directs_.single_quoted directs_.value directs_.equals directs_.attribute directs_.attributes directs_.comment directs_.instruction directs_.direct_here directs_.direct directs_.content_part directs_.end_tag directs_.content directs_.elem primariess_.integer primariess_.literal primariess_.var primariess_.inside primariess_.paren primariess_.dot primariess_.arguments primariess_.call primariess_.build_name primariess_.target_name primariess_.build_content primariess_.named_builder primariess_.instruction_builder primariess_.block_builder primariess_.builder primariess_.primary pathss_.predicate pathss_.test pathss_.axis_step pathss_.at_step pathss_.any_step pathss_.named_step pathss_.up_step pathss_.step_kind pathss_.step pathss_.two pathss_.slashes pathss_.root pathss_.deep_root pathss_.path operatorss_.one_sign operatorss_.unary operatorss_.single_type operatorss_.cast_type operatorss_.cast operatorss_.castable_type operatorss_.castable operatorss_.treat_type operatorss_.treat operatorss_.instance_type operatorss_.instance operatorss_.intersect operatorss_.union operatorss_.times operatorss_.multiplied operatorss_.added operatorss_.range_end operatorss_.range operatorss_.compared_to operatorss_.comparison operatorss_.conjunction operatorss_.disjunction bindingss_.variable bindingss_.position bindingss_.for_bind bindingss_.let_bind bindingss_.for_clause bindingss_.let_clause bindingss_.clause bindingss_.clauses bindingss_.condition bindingss_.descending bindingss_.empty_greatest bindingss_.collation bindingss_.key bindingss_.order bindingss_.flwor bindingss_.quant_bind bindingss_.quantified bindingss_.conditional bindingss_.level grammars_.no_level grammars_.no_element grammars_.encoding grammars_.version grammars_.strip grammars_.setter grammars_.initial grammars_.var_decl grammars_.param grammars_.params grammars_.body grammars_.fun_decl grammars_.declaration grammars_.declarations grammars_.prolog grammars_.query bytes_.ends bytes_.char_ends bytes_.skip_from bytes_.found values_.reference values_.string_from values_.value_from tokens_.token pieces_.piece chars_.is_char chars_.is_name_start chars_.is_name_char single_reads element_reads many_from
+unfolding terminalss_.expr terminalss_.block typess_.plain_test typess_.target typess_.instruction_test typess_.last_argument typess_.named_argument typess_.element_test typess_.attribute_test typess_.kind_test typess_.any_item typess_.item_type typess_.occurs typess_.empty_type typess_.seq_type typess_.typ directs_.value_part directs_.double_quoted directs_.single_quoted directs_.value directs_.equals directs_.attribute directs_.attributes directs_.comment directs_.instruction directs_.direct_here directs_.direct directs_.content_part directs_.end_tag directs_.content directs_.elem primariess_.integer primariess_.literal primariess_.var primariess_.inside primariess_.paren primariess_.dot primariess_.arguments primariess_.call primariess_.build_name primariess_.target_name primariess_.build_content primariess_.named_builder primariess_.instruction_builder primariess_.block_builder primariess_.builder primariess_.primary pathss_.predicate pathss_.test pathss_.axis_step pathss_.at_step pathss_.any_step pathss_.named_step pathss_.up_step pathss_.step_kind pathss_.step pathss_.two pathss_.slashes pathss_.root pathss_.deep_root pathss_.path operatorss_.one_sign operatorss_.unary operatorss_.single_type operatorss_.cast_type operatorss_.cast operatorss_.castable_type operatorss_.castable operatorss_.treat_type operatorss_.treat operatorss_.instance_type operatorss_.instance operatorss_.intersect operatorss_.union operatorss_.times operatorss_.multiplied operatorss_.added operatorss_.range_end operatorss_.range operatorss_.compared_to operatorss_.comparison operatorss_.conjunction operatorss_.disjunction bindingss_.variable bindingss_.position bindingss_.for_bind bindingss_.let_bind bindingss_.for_clause bindingss_.let_clause bindingss_.clause bindingss_.clauses bindingss_.condition bindingss_.descending bindingss_.empty_greatest bindingss_.collation bindingss_.key bindingss_.order bindingss_.flwor bindingss_.quant_bind bindingss_.quantified bindingss_.conditional bindingss_.level grammars_.no_level grammars_.no_element grammars_.encoding grammars_.version grammars_.strip grammars_.setter grammars_.initial grammars_.var_decl grammars_.param grammars_.params grammars_.body grammars_.fun_decl grammars_.declaration grammars_.declarations grammars_.prolog grammars_.query bytes_.ends bytes_.char_ends bytes_.skip_from bytes_.found values_.reference values_.string_from values_.value_from tokens_.token pieces_.piece pieces_.is_xml chars_.is_char chars_.is_name_start chars_.is_name_char single_reads element_reads many_from
 wide_names = (refl, refl, refl, refl, refl)
 
 blanks_and_comments :
@@ -89,7 +89,7 @@ blanks_and_comments :
     × (accepted (codes "a(: :)/(: :)b") ≡ true)
     × (reading (codes " ") ≡ Err syntax_fault)
     × (reading (codes "") ≡ Err syntax_fault)
-unfolding terminalss_.expr terminalss_.block typess_.plain_test typess_.target typess_.instruction_test typess_.last_argument typess_.named_argument typess_.element_test typess_.attribute_test typess_.kind_test typess_.any_item typess_.item_type typess_.occurs typess_.empty_type typess_.seq_type typess_.typ directs_.value_part directs_.double_quoted directs_.single_quoted directs_.value directs_.equals directs_.attribute directs_.attributes directs_.comment directs_.instruction directs_.direct_here directs_.direct directs_.content_part directs_.end_tag directs_.content directs_.elem primariess_.integer primariess_.literal primariess_.var primariess_.inside primariess_.paren primariess_.dot primariess_.arguments primariess_.call primariess_.build_name primariess_.target_name primariess_.build_content primariess_.named_builder primariess_.instruction_builder primariess_.block_builder primariess_.builder primariess_.primary pathss_.predicate pathss_.test pathss_.axis_step pathss_.at_step pathss_.any_step pathss_.named_step pathss_.up_step pathss_.step_kind pathss_.step pathss_.two pathss_.slashes pathss_.root pathss_.deep_root pathss_.path operatorss_.one_sign operatorss_.unary operatorss_.single_type operatorss_.cast_type operatorss_.cast operatorss_.castable_type operatorss_.castable operatorss_.treat_type operatorss_.treat operatorss_.instance_type operatorss_.instance operatorss_.intersect operatorss_.union operatorss_.times operatorss_.multiplied operatorss_.added operatorss_.range_end operatorss_.range operatorss_.compared_to operatorss_.comparison operatorss_.conjunction operatorss_.disjunction bindingss_.variable bindingss_.position bindingss_.for_bind bindingss_.let_bind bindingss_.for_clause bindingss_.let_clause bindingss_.clause bindingss_.clauses bindingss_.condition bindingss_.descending bindingss_.empty_greatest bindingss_.collation bindingss_.key bindingss_.order bindingss_.flwor bindingss_.quant_bind bindingss_.quantified bindingss_.conditional bindingss_.level grammars_.no_level grammars_.no_element grammars_.encoding grammars_.version grammars_.strip grammars_.setter grammars_.initial grammars_.var_decl grammars_.param grammars_.params grammars_.body grammars_.fun_decl grammars_.declaration grammars_.declarations grammars_.prolog grammars_.query bytes_.ends bytes_.char_ends bytes_.skip_from bytes_.found values_.reference values_.string_from values_.value_from tokens_.token pieces_.piece chars_.is_char chars_.is_name_start chars_.is_name_char single_reads element_reads many_from
+unfolding terminalss_.expr terminalss_.block typess_.plain_test typess_.target typess_.instruction_test typess_.last_argument typess_.named_argument typess_.element_test typess_.attribute_test typess_.kind_test typess_.any_item typess_.item_type typess_.occurs typess_.empty_type typess_.seq_type typess_.typ directs_.value_part directs_.double_quoted directs_.single_quoted directs_.value directs_.equals directs_.attribute directs_.attributes directs_.comment directs_.instruction directs_.direct_here directs_.direct directs_.content_part directs_.end_tag directs_.content directs_.elem primariess_.integer primariess_.literal primariess_.var primariess_.inside primariess_.paren primariess_.dot primariess_.arguments primariess_.call primariess_.build_name primariess_.target_name primariess_.build_content primariess_.named_builder primariess_.instruction_builder primariess_.block_builder primariess_.builder primariess_.primary pathss_.predicate pathss_.test pathss_.axis_step pathss_.at_step pathss_.any_step pathss_.named_step pathss_.up_step pathss_.step_kind pathss_.step pathss_.two pathss_.slashes pathss_.root pathss_.deep_root pathss_.path operatorss_.one_sign operatorss_.unary operatorss_.single_type operatorss_.cast_type operatorss_.cast operatorss_.castable_type operatorss_.castable operatorss_.treat_type operatorss_.treat operatorss_.instance_type operatorss_.instance operatorss_.intersect operatorss_.union operatorss_.times operatorss_.multiplied operatorss_.added operatorss_.range_end operatorss_.range operatorss_.compared_to operatorss_.comparison operatorss_.conjunction operatorss_.disjunction bindingss_.variable bindingss_.position bindingss_.for_bind bindingss_.let_bind bindingss_.for_clause bindingss_.let_clause bindingss_.clause bindingss_.clauses bindingss_.condition bindingss_.descending bindingss_.empty_greatest bindingss_.collation bindingss_.key bindingss_.order bindingss_.flwor bindingss_.quant_bind bindingss_.quantified bindingss_.conditional bindingss_.level grammars_.no_level grammars_.no_element grammars_.encoding grammars_.version grammars_.strip grammars_.setter grammars_.initial grammars_.var_decl grammars_.param grammars_.params grammars_.body grammars_.fun_decl grammars_.declaration grammars_.declarations grammars_.prolog grammars_.query bytes_.ends bytes_.char_ends bytes_.skip_from bytes_.found values_.reference values_.string_from values_.value_from tokens_.token pieces_.piece pieces_.is_xml chars_.is_char chars_.is_name_start chars_.is_name_char single_reads element_reads many_from
 blanks_and_comments = (refl, refl, refl, refl, refl, refl, refl, refl)
 
 arithmetic :
@@ -101,7 +101,7 @@ arithmetic :
     × (accepted (codes "+ - 1") ≡ true)
     × (reading (codes "1+") ≡ Err syntax_fault)
     × (accepted (codes "* * *") ≡ true)
-unfolding terminalss_.expr terminalss_.block typess_.plain_test typess_.target typess_.instruction_test typess_.last_argument typess_.named_argument typess_.element_test typess_.attribute_test typess_.kind_test typess_.any_item typess_.item_type typess_.occurs typess_.empty_type typess_.seq_type typess_.typ directs_.value_part directs_.double_quoted directs_.single_quoted directs_.value directs_.equals directs_.attribute directs_.attributes directs_.comment directs_.instruction directs_.direct_here directs_.direct directs_.content_part directs_.end_tag directs_.content directs_.elem primariess_.integer primariess_.literal primariess_.var primariess_.inside primariess_.paren primariess_.dot primariess_.arguments primariess_.call primariess_.build_name primariess_.target_name primariess_.build_content primariess_.named_builder primariess_.instruction_builder primariess_.block_builder primariess_.builder primariess_.primary pathss_.predicate pathss_.test pathss_.axis_step pathss_.at_step pathss_.any_step pathss_.named_step pathss_.up_step pathss_.step_kind pathss_.step pathss_.two pathss_.slashes pathss_.root pathss_.deep_root pathss_.path operatorss_.one_sign operatorss_.unary operatorss_.single_type operatorss_.cast_type operatorss_.cast operatorss_.castable_type operatorss_.castable operatorss_.treat_type operatorss_.treat operatorss_.instance_type operatorss_.instance operatorss_.intersect operatorss_.union operatorss_.times operatorss_.multiplied operatorss_.added operatorss_.range_end operatorss_.range operatorss_.compared_to operatorss_.comparison operatorss_.conjunction operatorss_.disjunction bindingss_.variable bindingss_.position bindingss_.for_bind bindingss_.let_bind bindingss_.for_clause bindingss_.let_clause bindingss_.clause bindingss_.clauses bindingss_.condition bindingss_.descending bindingss_.empty_greatest bindingss_.collation bindingss_.key bindingss_.order bindingss_.flwor bindingss_.quant_bind bindingss_.quantified bindingss_.conditional bindingss_.level grammars_.no_level grammars_.no_element grammars_.encoding grammars_.version grammars_.strip grammars_.setter grammars_.initial grammars_.var_decl grammars_.param grammars_.params grammars_.body grammars_.fun_decl grammars_.declaration grammars_.declarations grammars_.prolog grammars_.query bytes_.ends bytes_.char_ends bytes_.skip_from bytes_.found values_.reference values_.string_from values_.value_from tokens_.token pieces_.piece chars_.is_char chars_.is_name_start chars_.is_name_char single_reads element_reads many_from
+unfolding terminalss_.expr terminalss_.block typess_.plain_test typess_.target typess_.instruction_test typess_.last_argument typess_.named_argument typess_.element_test typess_.attribute_test typess_.kind_test typess_.any_item typess_.item_type typess_.occurs typess_.empty_type typess_.seq_type typess_.typ directs_.value_part directs_.double_quoted directs_.single_quoted directs_.value directs_.equals directs_.attribute directs_.attributes directs_.comment directs_.instruction directs_.direct_here directs_.direct directs_.content_part directs_.end_tag directs_.content directs_.elem primariess_.integer primariess_.literal primariess_.var primariess_.inside primariess_.paren primariess_.dot primariess_.arguments primariess_.call primariess_.build_name primariess_.target_name primariess_.build_content primariess_.named_builder primariess_.instruction_builder primariess_.block_builder primariess_.builder primariess_.primary pathss_.predicate pathss_.test pathss_.axis_step pathss_.at_step pathss_.any_step pathss_.named_step pathss_.up_step pathss_.step_kind pathss_.step pathss_.two pathss_.slashes pathss_.root pathss_.deep_root pathss_.path operatorss_.one_sign operatorss_.unary operatorss_.single_type operatorss_.cast_type operatorss_.cast operatorss_.castable_type operatorss_.castable operatorss_.treat_type operatorss_.treat operatorss_.instance_type operatorss_.instance operatorss_.intersect operatorss_.union operatorss_.times operatorss_.multiplied operatorss_.added operatorss_.range_end operatorss_.range operatorss_.compared_to operatorss_.comparison operatorss_.conjunction operatorss_.disjunction bindingss_.variable bindingss_.position bindingss_.for_bind bindingss_.let_bind bindingss_.for_clause bindingss_.let_clause bindingss_.clause bindingss_.clauses bindingss_.condition bindingss_.descending bindingss_.empty_greatest bindingss_.collation bindingss_.key bindingss_.order bindingss_.flwor bindingss_.quant_bind bindingss_.quantified bindingss_.conditional bindingss_.level grammars_.no_level grammars_.no_element grammars_.encoding grammars_.version grammars_.strip grammars_.setter grammars_.initial grammars_.var_decl grammars_.param grammars_.params grammars_.body grammars_.fun_decl grammars_.declaration grammars_.declarations grammars_.prolog grammars_.query bytes_.ends bytes_.char_ends bytes_.skip_from bytes_.found values_.reference values_.string_from values_.value_from tokens_.token pieces_.piece pieces_.is_xml chars_.is_char chars_.is_name_start chars_.is_name_char single_reads element_reads many_from
 arithmetic = (refl, refl, refl, refl, refl, refl, refl, refl)
 
 comparisons :
@@ -116,14 +116,14 @@ comparisons :
     × (accepted (codes "1 = -1") ≡ true)
     × (accepted (codes "1 !=2") ≡ true)
     × (reading (codes "1 ! 2") ≡ Err syntax_fault)
-unfolding terminalss_.expr terminalss_.block typess_.plain_test typess_.target typess_.instruction_test typess_.last_argument typess_.named_argument typess_.element_test typess_.attribute_test typess_.kind_test typess_.any_item typess_.item_type typess_.occurs typess_.empty_type typess_.seq_type typess_.typ directs_.value_part directs_.double_quoted directs_.single_quoted directs_.value directs_.equals directs_.attribute directs_.attributes directs_.comment directs_.instruction directs_.direct_here directs_.direct directs_.content_part directs_.end_tag directs_.content directs_.elem primariess_.integer primariess_.literal primariess_.var primariess_.inside primariess_.paren primariess_.dot primariess_.arguments primariess_.call primariess_.build_name primariess_.target_name primariess_.build_content primariess_.named_builder primariess_.instruction_builder primariess_.block_builder primariess_.builder primariess_.primary pathss_.predicate pathss_.test pathss_.axis_step pathss_.at_step pathss_.any_step pathss_.named_step pathss_.up_step pathss_.step_kind pathss_.step pathss_.two pathss_.slashes pathss_.root pathss_.deep_root pathss_.path operatorss_.one_sign operatorss_.unary operatorss_.single_type operatorss_.cast_type operatorss_.cast operatorss_.castable_type operatorss_.castable operatorss_.treat_type operatorss_.treat operatorss_.instance_type operatorss_.instance operatorss_.intersect operatorss_.union operatorss_.times operatorss_.multiplied operatorss_.added operatorss_.range_end operatorss_.range operatorss_.compared_to operatorss_.comparison operatorss_.conjunction operatorss_.disjunction bindingss_.variable bindingss_.position bindingss_.for_bind bindingss_.let_bind bindingss_.for_clause bindingss_.let_clause bindingss_.clause bindingss_.clauses bindingss_.condition bindingss_.descending bindingss_.empty_greatest bindingss_.collation bindingss_.key bindingss_.order bindingss_.flwor bindingss_.quant_bind bindingss_.quantified bindingss_.conditional bindingss_.level grammars_.no_level grammars_.no_element grammars_.encoding grammars_.version grammars_.strip grammars_.setter grammars_.initial grammars_.var_decl grammars_.param grammars_.params grammars_.body grammars_.fun_decl grammars_.declaration grammars_.declarations grammars_.prolog grammars_.query bytes_.ends bytes_.char_ends bytes_.skip_from bytes_.found values_.reference values_.string_from values_.value_from tokens_.token pieces_.piece chars_.is_char chars_.is_name_start chars_.is_name_char single_reads element_reads many_from
+unfolding terminalss_.expr terminalss_.block typess_.plain_test typess_.target typess_.instruction_test typess_.last_argument typess_.named_argument typess_.element_test typess_.attribute_test typess_.kind_test typess_.any_item typess_.item_type typess_.occurs typess_.empty_type typess_.seq_type typess_.typ directs_.value_part directs_.double_quoted directs_.single_quoted directs_.value directs_.equals directs_.attribute directs_.attributes directs_.comment directs_.instruction directs_.direct_here directs_.direct directs_.content_part directs_.end_tag directs_.content directs_.elem primariess_.integer primariess_.literal primariess_.var primariess_.inside primariess_.paren primariess_.dot primariess_.arguments primariess_.call primariess_.build_name primariess_.target_name primariess_.build_content primariess_.named_builder primariess_.instruction_builder primariess_.block_builder primariess_.builder primariess_.primary pathss_.predicate pathss_.test pathss_.axis_step pathss_.at_step pathss_.any_step pathss_.named_step pathss_.up_step pathss_.step_kind pathss_.step pathss_.two pathss_.slashes pathss_.root pathss_.deep_root pathss_.path operatorss_.one_sign operatorss_.unary operatorss_.single_type operatorss_.cast_type operatorss_.cast operatorss_.castable_type operatorss_.castable operatorss_.treat_type operatorss_.treat operatorss_.instance_type operatorss_.instance operatorss_.intersect operatorss_.union operatorss_.times operatorss_.multiplied operatorss_.added operatorss_.range_end operatorss_.range operatorss_.compared_to operatorss_.comparison operatorss_.conjunction operatorss_.disjunction bindingss_.variable bindingss_.position bindingss_.for_bind bindingss_.let_bind bindingss_.for_clause bindingss_.let_clause bindingss_.clause bindingss_.clauses bindingss_.condition bindingss_.descending bindingss_.empty_greatest bindingss_.collation bindingss_.key bindingss_.order bindingss_.flwor bindingss_.quant_bind bindingss_.quantified bindingss_.conditional bindingss_.level grammars_.no_level grammars_.no_element grammars_.encoding grammars_.version grammars_.strip grammars_.setter grammars_.initial grammars_.var_decl grammars_.param grammars_.params grammars_.body grammars_.fun_decl grammars_.declaration grammars_.declarations grammars_.prolog grammars_.query bytes_.ends bytes_.char_ends bytes_.skip_from bytes_.found values_.reference values_.string_from values_.value_from tokens_.token pieces_.piece pieces_.is_xml chars_.is_char chars_.is_name_start chars_.is_name_char single_reads element_reads many_from
 comparisons = (refl, refl, refl, refl, refl, refl, refl, refl, refl, refl, refl)
 
 set_operators :
     (accepted (codes "a or b and c") ≡ true)
     × (accepted (codes "a union b | c") ≡ true)
     × (accepted (codes "a intersect b except c") ≡ true)
-unfolding terminalss_.expr terminalss_.block typess_.plain_test typess_.target typess_.instruction_test typess_.last_argument typess_.named_argument typess_.element_test typess_.attribute_test typess_.kind_test typess_.any_item typess_.item_type typess_.occurs typess_.empty_type typess_.seq_type typess_.typ directs_.value_part directs_.double_quoted directs_.single_quoted directs_.value directs_.equals directs_.attribute directs_.attributes directs_.comment directs_.instruction directs_.direct_here directs_.direct directs_.content_part directs_.end_tag directs_.content directs_.elem primariess_.integer primariess_.literal primariess_.var primariess_.inside primariess_.paren primariess_.dot primariess_.arguments primariess_.call primariess_.build_name primariess_.target_name primariess_.build_content primariess_.named_builder primariess_.instruction_builder primariess_.block_builder primariess_.builder primariess_.primary pathss_.predicate pathss_.test pathss_.axis_step pathss_.at_step pathss_.any_step pathss_.named_step pathss_.up_step pathss_.step_kind pathss_.step pathss_.two pathss_.slashes pathss_.root pathss_.deep_root pathss_.path operatorss_.one_sign operatorss_.unary operatorss_.single_type operatorss_.cast_type operatorss_.cast operatorss_.castable_type operatorss_.castable operatorss_.treat_type operatorss_.treat operatorss_.instance_type operatorss_.instance operatorss_.intersect operatorss_.union operatorss_.times operatorss_.multiplied operatorss_.added operatorss_.range_end operatorss_.range operatorss_.compared_to operatorss_.comparison operatorss_.conjunction operatorss_.disjunction bindingss_.variable bindingss_.position bindingss_.for_bind bindingss_.let_bind bindingss_.for_clause bindingss_.let_clause bindingss_.clause bindingss_.clauses bindingss_.condition bindingss_.descending bindingss_.empty_greatest bindingss_.collation bindingss_.key bindingss_.order bindingss_.flwor bindingss_.quant_bind bindingss_.quantified bindingss_.conditional bindingss_.level grammars_.no_level grammars_.no_element grammars_.encoding grammars_.version grammars_.strip grammars_.setter grammars_.initial grammars_.var_decl grammars_.param grammars_.params grammars_.body grammars_.fun_decl grammars_.declaration grammars_.declarations grammars_.prolog grammars_.query bytes_.ends bytes_.char_ends bytes_.skip_from bytes_.found values_.reference values_.string_from values_.value_from tokens_.token pieces_.piece chars_.is_char chars_.is_name_start chars_.is_name_char single_reads element_reads many_from
+unfolding terminalss_.expr terminalss_.block typess_.plain_test typess_.target typess_.instruction_test typess_.last_argument typess_.named_argument typess_.element_test typess_.attribute_test typess_.kind_test typess_.any_item typess_.item_type typess_.occurs typess_.empty_type typess_.seq_type typess_.typ directs_.value_part directs_.double_quoted directs_.single_quoted directs_.value directs_.equals directs_.attribute directs_.attributes directs_.comment directs_.instruction directs_.direct_here directs_.direct directs_.content_part directs_.end_tag directs_.content directs_.elem primariess_.integer primariess_.literal primariess_.var primariess_.inside primariess_.paren primariess_.dot primariess_.arguments primariess_.call primariess_.build_name primariess_.target_name primariess_.build_content primariess_.named_builder primariess_.instruction_builder primariess_.block_builder primariess_.builder primariess_.primary pathss_.predicate pathss_.test pathss_.axis_step pathss_.at_step pathss_.any_step pathss_.named_step pathss_.up_step pathss_.step_kind pathss_.step pathss_.two pathss_.slashes pathss_.root pathss_.deep_root pathss_.path operatorss_.one_sign operatorss_.unary operatorss_.single_type operatorss_.cast_type operatorss_.cast operatorss_.castable_type operatorss_.castable operatorss_.treat_type operatorss_.treat operatorss_.instance_type operatorss_.instance operatorss_.intersect operatorss_.union operatorss_.times operatorss_.multiplied operatorss_.added operatorss_.range_end operatorss_.range operatorss_.compared_to operatorss_.comparison operatorss_.conjunction operatorss_.disjunction bindingss_.variable bindingss_.position bindingss_.for_bind bindingss_.let_bind bindingss_.for_clause bindingss_.let_clause bindingss_.clause bindingss_.clauses bindingss_.condition bindingss_.descending bindingss_.empty_greatest bindingss_.collation bindingss_.key bindingss_.order bindingss_.flwor bindingss_.quant_bind bindingss_.quantified bindingss_.conditional bindingss_.level grammars_.no_level grammars_.no_element grammars_.encoding grammars_.version grammars_.strip grammars_.setter grammars_.initial grammars_.var_decl grammars_.param grammars_.params grammars_.body grammars_.fun_decl grammars_.declaration grammars_.declarations grammars_.prolog grammars_.query bytes_.ends bytes_.char_ends bytes_.skip_from bytes_.found values_.reference values_.string_from values_.value_from tokens_.token pieces_.piece pieces_.is_xml chars_.is_char chars_.is_name_start chars_.is_name_char single_reads element_reads many_from
 set_operators = (refl, refl, refl)
 
 tested_types :
@@ -133,14 +133,14 @@ tested_types :
     × (accepted (codes "1 instance of empty-sequence()") ≡ true)
     × (reading (codes "1 instance of empty-sequence()?") ≡ Err syntax_fault)
     × (accepted (codes "1 treat as node()+") ≡ true)
-unfolding terminalss_.expr terminalss_.block typess_.plain_test typess_.target typess_.instruction_test typess_.last_argument typess_.named_argument typess_.element_test typess_.attribute_test typess_.kind_test typess_.any_item typess_.item_type typess_.occurs typess_.empty_type typess_.seq_type typess_.typ directs_.value_part directs_.double_quoted directs_.single_quoted directs_.value directs_.equals directs_.attribute directs_.attributes directs_.comment directs_.instruction directs_.direct_here directs_.direct directs_.content_part directs_.end_tag directs_.content directs_.elem primariess_.integer primariess_.literal primariess_.var primariess_.inside primariess_.paren primariess_.dot primariess_.arguments primariess_.call primariess_.build_name primariess_.target_name primariess_.build_content primariess_.named_builder primariess_.instruction_builder primariess_.block_builder primariess_.builder primariess_.primary pathss_.predicate pathss_.test pathss_.axis_step pathss_.at_step pathss_.any_step pathss_.named_step pathss_.up_step pathss_.step_kind pathss_.step pathss_.two pathss_.slashes pathss_.root pathss_.deep_root pathss_.path operatorss_.one_sign operatorss_.unary operatorss_.single_type operatorss_.cast_type operatorss_.cast operatorss_.castable_type operatorss_.castable operatorss_.treat_type operatorss_.treat operatorss_.instance_type operatorss_.instance operatorss_.intersect operatorss_.union operatorss_.times operatorss_.multiplied operatorss_.added operatorss_.range_end operatorss_.range operatorss_.compared_to operatorss_.comparison operatorss_.conjunction operatorss_.disjunction bindingss_.variable bindingss_.position bindingss_.for_bind bindingss_.let_bind bindingss_.for_clause bindingss_.let_clause bindingss_.clause bindingss_.clauses bindingss_.condition bindingss_.descending bindingss_.empty_greatest bindingss_.collation bindingss_.key bindingss_.order bindingss_.flwor bindingss_.quant_bind bindingss_.quantified bindingss_.conditional bindingss_.level grammars_.no_level grammars_.no_element grammars_.encoding grammars_.version grammars_.strip grammars_.setter grammars_.initial grammars_.var_decl grammars_.param grammars_.params grammars_.body grammars_.fun_decl grammars_.declaration grammars_.declarations grammars_.prolog grammars_.query bytes_.ends bytes_.char_ends bytes_.skip_from bytes_.found values_.reference values_.string_from values_.value_from tokens_.token pieces_.piece chars_.is_char chars_.is_name_start chars_.is_name_char single_reads element_reads many_from
+unfolding terminalss_.expr terminalss_.block typess_.plain_test typess_.target typess_.instruction_test typess_.last_argument typess_.named_argument typess_.element_test typess_.attribute_test typess_.kind_test typess_.any_item typess_.item_type typess_.occurs typess_.empty_type typess_.seq_type typess_.typ directs_.value_part directs_.double_quoted directs_.single_quoted directs_.value directs_.equals directs_.attribute directs_.attributes directs_.comment directs_.instruction directs_.direct_here directs_.direct directs_.content_part directs_.end_tag directs_.content directs_.elem primariess_.integer primariess_.literal primariess_.var primariess_.inside primariess_.paren primariess_.dot primariess_.arguments primariess_.call primariess_.build_name primariess_.target_name primariess_.build_content primariess_.named_builder primariess_.instruction_builder primariess_.block_builder primariess_.builder primariess_.primary pathss_.predicate pathss_.test pathss_.axis_step pathss_.at_step pathss_.any_step pathss_.named_step pathss_.up_step pathss_.step_kind pathss_.step pathss_.two pathss_.slashes pathss_.root pathss_.deep_root pathss_.path operatorss_.one_sign operatorss_.unary operatorss_.single_type operatorss_.cast_type operatorss_.cast operatorss_.castable_type operatorss_.castable operatorss_.treat_type operatorss_.treat operatorss_.instance_type operatorss_.instance operatorss_.intersect operatorss_.union operatorss_.times operatorss_.multiplied operatorss_.added operatorss_.range_end operatorss_.range operatorss_.compared_to operatorss_.comparison operatorss_.conjunction operatorss_.disjunction bindingss_.variable bindingss_.position bindingss_.for_bind bindingss_.let_bind bindingss_.for_clause bindingss_.let_clause bindingss_.clause bindingss_.clauses bindingss_.condition bindingss_.descending bindingss_.empty_greatest bindingss_.collation bindingss_.key bindingss_.order bindingss_.flwor bindingss_.quant_bind bindingss_.quantified bindingss_.conditional bindingss_.level grammars_.no_level grammars_.no_element grammars_.encoding grammars_.version grammars_.strip grammars_.setter grammars_.initial grammars_.var_decl grammars_.param grammars_.params grammars_.body grammars_.fun_decl grammars_.declaration grammars_.declarations grammars_.prolog grammars_.query bytes_.ends bytes_.char_ends bytes_.skip_from bytes_.found values_.reference values_.string_from values_.value_from tokens_.token pieces_.piece pieces_.is_xml chars_.is_char chars_.is_name_start chars_.is_name_char single_reads element_reads many_from
 tested_types = (refl, refl, refl, refl, refl, refl)
 
 cast_types :
     (accepted (codes "1 cast as xs:integer?") ≡ true)
     × (accepted (codes "1 castable as xs:string") ≡ true)
     × (reading (codes "1 cast as item()") ≡ Err syntax_fault)
-unfolding terminalss_.expr terminalss_.block typess_.plain_test typess_.target typess_.instruction_test typess_.last_argument typess_.named_argument typess_.element_test typess_.attribute_test typess_.kind_test typess_.any_item typess_.item_type typess_.occurs typess_.empty_type typess_.seq_type typess_.typ directs_.value_part directs_.double_quoted directs_.single_quoted directs_.value directs_.equals directs_.attribute directs_.attributes directs_.comment directs_.instruction directs_.direct_here directs_.direct directs_.content_part directs_.end_tag directs_.content directs_.elem primariess_.integer primariess_.literal primariess_.var primariess_.inside primariess_.paren primariess_.dot primariess_.arguments primariess_.call primariess_.build_name primariess_.target_name primariess_.build_content primariess_.named_builder primariess_.instruction_builder primariess_.block_builder primariess_.builder primariess_.primary pathss_.predicate pathss_.test pathss_.axis_step pathss_.at_step pathss_.any_step pathss_.named_step pathss_.up_step pathss_.step_kind pathss_.step pathss_.two pathss_.slashes pathss_.root pathss_.deep_root pathss_.path operatorss_.one_sign operatorss_.unary operatorss_.single_type operatorss_.cast_type operatorss_.cast operatorss_.castable_type operatorss_.castable operatorss_.treat_type operatorss_.treat operatorss_.instance_type operatorss_.instance operatorss_.intersect operatorss_.union operatorss_.times operatorss_.multiplied operatorss_.added operatorss_.range_end operatorss_.range operatorss_.compared_to operatorss_.comparison operatorss_.conjunction operatorss_.disjunction bindingss_.variable bindingss_.position bindingss_.for_bind bindingss_.let_bind bindingss_.for_clause bindingss_.let_clause bindingss_.clause bindingss_.clauses bindingss_.condition bindingss_.descending bindingss_.empty_greatest bindingss_.collation bindingss_.key bindingss_.order bindingss_.flwor bindingss_.quant_bind bindingss_.quantified bindingss_.conditional bindingss_.level grammars_.no_level grammars_.no_element grammars_.encoding grammars_.version grammars_.strip grammars_.setter grammars_.initial grammars_.var_decl grammars_.param grammars_.params grammars_.body grammars_.fun_decl grammars_.declaration grammars_.declarations grammars_.prolog grammars_.query bytes_.ends bytes_.char_ends bytes_.skip_from bytes_.found values_.reference values_.string_from values_.value_from tokens_.token pieces_.piece chars_.is_char chars_.is_name_start chars_.is_name_char single_reads element_reads many_from
+unfolding terminalss_.expr terminalss_.block typess_.plain_test typess_.target typess_.instruction_test typess_.last_argument typess_.named_argument typess_.element_test typess_.attribute_test typess_.kind_test typess_.any_item typess_.item_type typess_.occurs typess_.empty_type typess_.seq_type typess_.typ directs_.value_part directs_.double_quoted directs_.single_quoted directs_.value directs_.equals directs_.attribute directs_.attributes directs_.comment directs_.instruction directs_.direct_here directs_.direct directs_.content_part directs_.end_tag directs_.content directs_.elem primariess_.integer primariess_.literal primariess_.var primariess_.inside primariess_.paren primariess_.dot primariess_.arguments primariess_.call primariess_.build_name primariess_.target_name primariess_.build_content primariess_.named_builder primariess_.instruction_builder primariess_.block_builder primariess_.builder primariess_.primary pathss_.predicate pathss_.test pathss_.axis_step pathss_.at_step pathss_.any_step pathss_.named_step pathss_.up_step pathss_.step_kind pathss_.step pathss_.two pathss_.slashes pathss_.root pathss_.deep_root pathss_.path operatorss_.one_sign operatorss_.unary operatorss_.single_type operatorss_.cast_type operatorss_.cast operatorss_.castable_type operatorss_.castable operatorss_.treat_type operatorss_.treat operatorss_.instance_type operatorss_.instance operatorss_.intersect operatorss_.union operatorss_.times operatorss_.multiplied operatorss_.added operatorss_.range_end operatorss_.range operatorss_.compared_to operatorss_.comparison operatorss_.conjunction operatorss_.disjunction bindingss_.variable bindingss_.position bindingss_.for_bind bindingss_.let_bind bindingss_.for_clause bindingss_.let_clause bindingss_.clause bindingss_.clauses bindingss_.condition bindingss_.descending bindingss_.empty_greatest bindingss_.collation bindingss_.key bindingss_.order bindingss_.flwor bindingss_.quant_bind bindingss_.quantified bindingss_.conditional bindingss_.level grammars_.no_level grammars_.no_element grammars_.encoding grammars_.version grammars_.strip grammars_.setter grammars_.initial grammars_.var_decl grammars_.param grammars_.params grammars_.body grammars_.fun_decl grammars_.declaration grammars_.declarations grammars_.prolog grammars_.query bytes_.ends bytes_.char_ends bytes_.skip_from bytes_.found values_.reference values_.string_from values_.value_from tokens_.token pieces_.piece pieces_.is_xml chars_.is_char chars_.is_name_start chars_.is_name_char single_reads element_reads many_from
 cast_types = (refl, refl, refl)
 
 kind_tests :
@@ -150,21 +150,21 @@ kind_tests :
     × (reading (codes "1 instance of schema-element(a)") ≡ Err (cut left_out 14))
     × (reading (codes "1 instance of document-node(element(a))") ≡ Err (cut left_out 14))
     × (accepted (codes "1 instance of document-node()") ≡ true)
-unfolding terminalss_.expr terminalss_.block typess_.plain_test typess_.target typess_.instruction_test typess_.last_argument typess_.named_argument typess_.element_test typess_.attribute_test typess_.kind_test typess_.any_item typess_.item_type typess_.occurs typess_.empty_type typess_.seq_type typess_.typ directs_.value_part directs_.double_quoted directs_.single_quoted directs_.value directs_.equals directs_.attribute directs_.attributes directs_.comment directs_.instruction directs_.direct_here directs_.direct directs_.content_part directs_.end_tag directs_.content directs_.elem primariess_.integer primariess_.literal primariess_.var primariess_.inside primariess_.paren primariess_.dot primariess_.arguments primariess_.call primariess_.build_name primariess_.target_name primariess_.build_content primariess_.named_builder primariess_.instruction_builder primariess_.block_builder primariess_.builder primariess_.primary pathss_.predicate pathss_.test pathss_.axis_step pathss_.at_step pathss_.any_step pathss_.named_step pathss_.up_step pathss_.step_kind pathss_.step pathss_.two pathss_.slashes pathss_.root pathss_.deep_root pathss_.path operatorss_.one_sign operatorss_.unary operatorss_.single_type operatorss_.cast_type operatorss_.cast operatorss_.castable_type operatorss_.castable operatorss_.treat_type operatorss_.treat operatorss_.instance_type operatorss_.instance operatorss_.intersect operatorss_.union operatorss_.times operatorss_.multiplied operatorss_.added operatorss_.range_end operatorss_.range operatorss_.compared_to operatorss_.comparison operatorss_.conjunction operatorss_.disjunction bindingss_.variable bindingss_.position bindingss_.for_bind bindingss_.let_bind bindingss_.for_clause bindingss_.let_clause bindingss_.clause bindingss_.clauses bindingss_.condition bindingss_.descending bindingss_.empty_greatest bindingss_.collation bindingss_.key bindingss_.order bindingss_.flwor bindingss_.quant_bind bindingss_.quantified bindingss_.conditional bindingss_.level grammars_.no_level grammars_.no_element grammars_.encoding grammars_.version grammars_.strip grammars_.setter grammars_.initial grammars_.var_decl grammars_.param grammars_.params grammars_.body grammars_.fun_decl grammars_.declaration grammars_.declarations grammars_.prolog grammars_.query bytes_.ends bytes_.char_ends bytes_.skip_from bytes_.found values_.reference values_.string_from values_.value_from tokens_.token pieces_.piece chars_.is_char chars_.is_name_start chars_.is_name_char single_reads element_reads many_from
+unfolding terminalss_.expr terminalss_.block typess_.plain_test typess_.target typess_.instruction_test typess_.last_argument typess_.named_argument typess_.element_test typess_.attribute_test typess_.kind_test typess_.any_item typess_.item_type typess_.occurs typess_.empty_type typess_.seq_type typess_.typ directs_.value_part directs_.double_quoted directs_.single_quoted directs_.value directs_.equals directs_.attribute directs_.attributes directs_.comment directs_.instruction directs_.direct_here directs_.direct directs_.content_part directs_.end_tag directs_.content directs_.elem primariess_.integer primariess_.literal primariess_.var primariess_.inside primariess_.paren primariess_.dot primariess_.arguments primariess_.call primariess_.build_name primariess_.target_name primariess_.build_content primariess_.named_builder primariess_.instruction_builder primariess_.block_builder primariess_.builder primariess_.primary pathss_.predicate pathss_.test pathss_.axis_step pathss_.at_step pathss_.any_step pathss_.named_step pathss_.up_step pathss_.step_kind pathss_.step pathss_.two pathss_.slashes pathss_.root pathss_.deep_root pathss_.path operatorss_.one_sign operatorss_.unary operatorss_.single_type operatorss_.cast_type operatorss_.cast operatorss_.castable_type operatorss_.castable operatorss_.treat_type operatorss_.treat operatorss_.instance_type operatorss_.instance operatorss_.intersect operatorss_.union operatorss_.times operatorss_.multiplied operatorss_.added operatorss_.range_end operatorss_.range operatorss_.compared_to operatorss_.comparison operatorss_.conjunction operatorss_.disjunction bindingss_.variable bindingss_.position bindingss_.for_bind bindingss_.let_bind bindingss_.for_clause bindingss_.let_clause bindingss_.clause bindingss_.clauses bindingss_.condition bindingss_.descending bindingss_.empty_greatest bindingss_.collation bindingss_.key bindingss_.order bindingss_.flwor bindingss_.quant_bind bindingss_.quantified bindingss_.conditional bindingss_.level grammars_.no_level grammars_.no_element grammars_.encoding grammars_.version grammars_.strip grammars_.setter grammars_.initial grammars_.var_decl grammars_.param grammars_.params grammars_.body grammars_.fun_decl grammars_.declaration grammars_.declarations grammars_.prolog grammars_.query bytes_.ends bytes_.char_ends bytes_.skip_from bytes_.found values_.reference values_.string_from values_.value_from tokens_.token pieces_.piece pieces_.is_xml chars_.is_char chars_.is_name_start chars_.is_name_char single_reads element_reads many_from
 kind_tests = (refl, refl, refl, refl, refl, refl)
 
 instruction_tests :
     (accepted (codes "processing-instruction(a)") ≡ true)
     × (reading (codes "processing-instruction(p:a)") ≡ Err syntax_fault)
     × (accepted (codes "processing-instruction()") ≡ true)
-unfolding terminalss_.expr terminalss_.block typess_.plain_test typess_.target typess_.instruction_test typess_.last_argument typess_.named_argument typess_.element_test typess_.attribute_test typess_.kind_test typess_.any_item typess_.item_type typess_.occurs typess_.empty_type typess_.seq_type typess_.typ directs_.value_part directs_.double_quoted directs_.single_quoted directs_.value directs_.equals directs_.attribute directs_.attributes directs_.comment directs_.instruction directs_.direct_here directs_.direct directs_.content_part directs_.end_tag directs_.content directs_.elem primariess_.integer primariess_.literal primariess_.var primariess_.inside primariess_.paren primariess_.dot primariess_.arguments primariess_.call primariess_.build_name primariess_.target_name primariess_.build_content primariess_.named_builder primariess_.instruction_builder primariess_.block_builder primariess_.builder primariess_.primary pathss_.predicate pathss_.test pathss_.axis_step pathss_.at_step pathss_.any_step pathss_.named_step pathss_.up_step pathss_.step_kind pathss_.step pathss_.two pathss_.slashes pathss_.root pathss_.deep_root pathss_.path operatorss_.one_sign operatorss_.unary operatorss_.single_type operatorss_.cast_type operatorss_.cast operatorss_.castable_type operatorss_.castable operatorss_.treat_type operatorss_.treat operatorss_.instance_type operatorss_.instance operatorss_.intersect operatorss_.union operatorss_.times operatorss_.multiplied operatorss_.added operatorss_.range_end operatorss_.range operatorss_.compared_to operatorss_.comparison operatorss_.conjunction operatorss_.disjunction bindingss_.variable bindingss_.position bindingss_.for_bind bindingss_.let_bind bindingss_.for_clause bindingss_.let_clause bindingss_.clause bindingss_.clauses bindingss_.condition bindingss_.descending bindingss_.empty_greatest bindingss_.collation bindingss_.key bindingss_.order bindingss_.flwor bindingss_.quant_bind bindingss_.quantified bindingss_.conditional bindingss_.level grammars_.no_level grammars_.no_element grammars_.encoding grammars_.version grammars_.strip grammars_.setter grammars_.initial grammars_.var_decl grammars_.param grammars_.params grammars_.body grammars_.fun_decl grammars_.declaration grammars_.declarations grammars_.prolog grammars_.query bytes_.ends bytes_.char_ends bytes_.skip_from bytes_.found values_.reference values_.string_from values_.value_from tokens_.token pieces_.piece chars_.is_char chars_.is_name_start chars_.is_name_char single_reads element_reads many_from
+unfolding terminalss_.expr terminalss_.block typess_.plain_test typess_.target typess_.instruction_test typess_.last_argument typess_.named_argument typess_.element_test typess_.attribute_test typess_.kind_test typess_.any_item typess_.item_type typess_.occurs typess_.empty_type typess_.seq_type typess_.typ directs_.value_part directs_.double_quoted directs_.single_quoted directs_.value directs_.equals directs_.attribute directs_.attributes directs_.comment directs_.instruction directs_.direct_here directs_.direct directs_.content_part directs_.end_tag directs_.content directs_.elem primariess_.integer primariess_.literal primariess_.var primariess_.inside primariess_.paren primariess_.dot primariess_.arguments primariess_.call primariess_.build_name primariess_.target_name primariess_.build_content primariess_.named_builder primariess_.instruction_builder primariess_.block_builder primariess_.builder primariess_.primary pathss_.predicate pathss_.test pathss_.axis_step pathss_.at_step pathss_.any_step pathss_.named_step pathss_.up_step pathss_.step_kind pathss_.step pathss_.two pathss_.slashes pathss_.root pathss_.deep_root pathss_.path operatorss_.one_sign operatorss_.unary operatorss_.single_type operatorss_.cast_type operatorss_.cast operatorss_.castable_type operatorss_.castable operatorss_.treat_type operatorss_.treat operatorss_.instance_type operatorss_.instance operatorss_.intersect operatorss_.union operatorss_.times operatorss_.multiplied operatorss_.added operatorss_.range_end operatorss_.range operatorss_.compared_to operatorss_.comparison operatorss_.conjunction operatorss_.disjunction bindingss_.variable bindingss_.position bindingss_.for_bind bindingss_.let_bind bindingss_.for_clause bindingss_.let_clause bindingss_.clause bindingss_.clauses bindingss_.condition bindingss_.descending bindingss_.empty_greatest bindingss_.collation bindingss_.key bindingss_.order bindingss_.flwor bindingss_.quant_bind bindingss_.quantified bindingss_.conditional bindingss_.level grammars_.no_level grammars_.no_element grammars_.encoding grammars_.version grammars_.strip grammars_.setter grammars_.initial grammars_.var_decl grammars_.param grammars_.params grammars_.body grammars_.fun_decl grammars_.declaration grammars_.declarations grammars_.prolog grammars_.query bytes_.ends bytes_.char_ends bytes_.skip_from bytes_.found values_.reference values_.string_from values_.value_from tokens_.token pieces_.piece pieces_.is_xml chars_.is_char chars_.is_name_start chars_.is_name_char single_reads element_reads many_from
 instruction_tests = (refl, refl, refl)
 
 occurrences :
     (reading (codes "1 instance of xs:integer * 2") ≡ Err syntax_fault)
     × (reading (codes "1 instance of xs:integer + 2") ≡ Err syntax_fault)
     × (accepted (codes "(1 instance of xs:integer) + 2") ≡ true)
-unfolding terminalss_.expr terminalss_.block typess_.plain_test typess_.target typess_.instruction_test typess_.last_argument typess_.named_argument typess_.element_test typess_.attribute_test typess_.kind_test typess_.any_item typess_.item_type typess_.occurs typess_.empty_type typess_.seq_type typess_.typ directs_.value_part directs_.double_quoted directs_.single_quoted directs_.value directs_.equals directs_.attribute directs_.attributes directs_.comment directs_.instruction directs_.direct_here directs_.direct directs_.content_part directs_.end_tag directs_.content directs_.elem primariess_.integer primariess_.literal primariess_.var primariess_.inside primariess_.paren primariess_.dot primariess_.arguments primariess_.call primariess_.build_name primariess_.target_name primariess_.build_content primariess_.named_builder primariess_.instruction_builder primariess_.block_builder primariess_.builder primariess_.primary pathss_.predicate pathss_.test pathss_.axis_step pathss_.at_step pathss_.any_step pathss_.named_step pathss_.up_step pathss_.step_kind pathss_.step pathss_.two pathss_.slashes pathss_.root pathss_.deep_root pathss_.path operatorss_.one_sign operatorss_.unary operatorss_.single_type operatorss_.cast_type operatorss_.cast operatorss_.castable_type operatorss_.castable operatorss_.treat_type operatorss_.treat operatorss_.instance_type operatorss_.instance operatorss_.intersect operatorss_.union operatorss_.times operatorss_.multiplied operatorss_.added operatorss_.range_end operatorss_.range operatorss_.compared_to operatorss_.comparison operatorss_.conjunction operatorss_.disjunction bindingss_.variable bindingss_.position bindingss_.for_bind bindingss_.let_bind bindingss_.for_clause bindingss_.let_clause bindingss_.clause bindingss_.clauses bindingss_.condition bindingss_.descending bindingss_.empty_greatest bindingss_.collation bindingss_.key bindingss_.order bindingss_.flwor bindingss_.quant_bind bindingss_.quantified bindingss_.conditional bindingss_.level grammars_.no_level grammars_.no_element grammars_.encoding grammars_.version grammars_.strip grammars_.setter grammars_.initial grammars_.var_decl grammars_.param grammars_.params grammars_.body grammars_.fun_decl grammars_.declaration grammars_.declarations grammars_.prolog grammars_.query bytes_.ends bytes_.char_ends bytes_.skip_from bytes_.found values_.reference values_.string_from values_.value_from tokens_.token pieces_.piece chars_.is_char chars_.is_name_start chars_.is_name_char single_reads element_reads many_from
+unfolding terminalss_.expr terminalss_.block typess_.plain_test typess_.target typess_.instruction_test typess_.last_argument typess_.named_argument typess_.element_test typess_.attribute_test typess_.kind_test typess_.any_item typess_.item_type typess_.occurs typess_.empty_type typess_.seq_type typess_.typ directs_.value_part directs_.double_quoted directs_.single_quoted directs_.value directs_.equals directs_.attribute directs_.attributes directs_.comment directs_.instruction directs_.direct_here directs_.direct directs_.content_part directs_.end_tag directs_.content directs_.elem primariess_.integer primariess_.literal primariess_.var primariess_.inside primariess_.paren primariess_.dot primariess_.arguments primariess_.call primariess_.build_name primariess_.target_name primariess_.build_content primariess_.named_builder primariess_.instruction_builder primariess_.block_builder primariess_.builder primariess_.primary pathss_.predicate pathss_.test pathss_.axis_step pathss_.at_step pathss_.any_step pathss_.named_step pathss_.up_step pathss_.step_kind pathss_.step pathss_.two pathss_.slashes pathss_.root pathss_.deep_root pathss_.path operatorss_.one_sign operatorss_.unary operatorss_.single_type operatorss_.cast_type operatorss_.cast operatorss_.castable_type operatorss_.castable operatorss_.treat_type operatorss_.treat operatorss_.instance_type operatorss_.instance operatorss_.intersect operatorss_.union operatorss_.times operatorss_.multiplied operatorss_.added operatorss_.range_end operatorss_.range operatorss_.compared_to operatorss_.comparison operatorss_.conjunction operatorss_.disjunction bindingss_.variable bindingss_.position bindingss_.for_bind bindingss_.let_bind bindingss_.for_clause bindingss_.let_clause bindingss_.clause bindingss_.clauses bindingss_.condition bindingss_.descending bindingss_.empty_greatest bindingss_.collation bindingss_.key bindingss_.order bindingss_.flwor bindingss_.quant_bind bindingss_.quantified bindingss_.conditional bindingss_.level grammars_.no_level grammars_.no_element grammars_.encoding grammars_.version grammars_.strip grammars_.setter grammars_.initial grammars_.var_decl grammars_.param grammars_.params grammars_.body grammars_.fun_decl grammars_.declaration grammars_.declarations grammars_.prolog grammars_.query bytes_.ends bytes_.char_ends bytes_.skip_from bytes_.found values_.reference values_.string_from values_.value_from tokens_.token pieces_.piece pieces_.is_xml chars_.is_char chars_.is_name_start chars_.is_name_char single_reads element_reads many_from
 occurrences = (refl, refl, refl)
 
 paths :
@@ -187,7 +187,7 @@ paths :
     × (accepted (codes "@*") ≡ true)
     × (accepted (codes "*") ≡ true)
     × (accepted (codes "./a") ≡ true)
-unfolding terminalss_.expr terminalss_.block typess_.plain_test typess_.target typess_.instruction_test typess_.last_argument typess_.named_argument typess_.element_test typess_.attribute_test typess_.kind_test typess_.any_item typess_.item_type typess_.occurs typess_.empty_type typess_.seq_type typess_.typ directs_.value_part directs_.double_quoted directs_.single_quoted directs_.value directs_.equals directs_.attribute directs_.attributes directs_.comment directs_.instruction directs_.direct_here directs_.direct directs_.content_part directs_.end_tag directs_.content directs_.elem primariess_.integer primariess_.literal primariess_.var primariess_.inside primariess_.paren primariess_.dot primariess_.arguments primariess_.call primariess_.build_name primariess_.target_name primariess_.build_content primariess_.named_builder primariess_.instruction_builder primariess_.block_builder primariess_.builder primariess_.primary pathss_.predicate pathss_.test pathss_.axis_step pathss_.at_step pathss_.any_step pathss_.named_step pathss_.up_step pathss_.step_kind pathss_.step pathss_.two pathss_.slashes pathss_.root pathss_.deep_root pathss_.path operatorss_.one_sign operatorss_.unary operatorss_.single_type operatorss_.cast_type operatorss_.cast operatorss_.castable_type operatorss_.castable operatorss_.treat_type operatorss_.treat operatorss_.instance_type operatorss_.instance operatorss_.intersect operatorss_.union operatorss_.times operatorss_.multiplied operatorss_.added operatorss_.range_end operatorss_.range operatorss_.compared_to operatorss_.comparison operatorss_.conjunction operatorss_.disjunction bindingss_.variable bindingss_.position bindingss_.for_bind bindingss_.let_bind bindingss_.for_clause bindingss_.let_clause bindingss_.clause bindingss_.clauses bindingss_.condition bindingss_.descending bindingss_.empty_greatest bindingss_.collation bindingss_.key bindingss_.order bindingss_.flwor bindingss_.quant_bind bindingss_.quantified bindingss_.conditional bindingss_.level grammars_.no_level grammars_.no_element grammars_.encoding grammars_.version grammars_.strip grammars_.setter grammars_.initial grammars_.var_decl grammars_.param grammars_.params grammars_.body grammars_.fun_decl grammars_.declaration grammars_.declarations grammars_.prolog grammars_.query bytes_.ends bytes_.char_ends bytes_.skip_from bytes_.found values_.reference values_.string_from values_.value_from tokens_.token pieces_.piece chars_.is_char chars_.is_name_start chars_.is_name_char single_reads element_reads many_from
+unfolding terminalss_.expr terminalss_.block typess_.plain_test typess_.target typess_.instruction_test typess_.last_argument typess_.named_argument typess_.element_test typess_.attribute_test typess_.kind_test typess_.any_item typess_.item_type typess_.occurs typess_.empty_type typess_.seq_type typess_.typ directs_.value_part directs_.double_quoted directs_.single_quoted directs_.value directs_.equals directs_.attribute directs_.attributes directs_.comment directs_.instruction directs_.direct_here directs_.direct directs_.content_part directs_.end_tag directs_.content directs_.elem primariess_.integer primariess_.literal primariess_.var primariess_.inside primariess_.paren primariess_.dot primariess_.arguments primariess_.call primariess_.build_name primariess_.target_name primariess_.build_content primariess_.named_builder primariess_.instruction_builder primariess_.block_builder primariess_.builder primariess_.primary pathss_.predicate pathss_.test pathss_.axis_step pathss_.at_step pathss_.any_step pathss_.named_step pathss_.up_step pathss_.step_kind pathss_.step pathss_.two pathss_.slashes pathss_.root pathss_.deep_root pathss_.path operatorss_.one_sign operatorss_.unary operatorss_.single_type operatorss_.cast_type operatorss_.cast operatorss_.castable_type operatorss_.castable operatorss_.treat_type operatorss_.treat operatorss_.instance_type operatorss_.instance operatorss_.intersect operatorss_.union operatorss_.times operatorss_.multiplied operatorss_.added operatorss_.range_end operatorss_.range operatorss_.compared_to operatorss_.comparison operatorss_.conjunction operatorss_.disjunction bindingss_.variable bindingss_.position bindingss_.for_bind bindingss_.let_bind bindingss_.for_clause bindingss_.let_clause bindingss_.clause bindingss_.clauses bindingss_.condition bindingss_.descending bindingss_.empty_greatest bindingss_.collation bindingss_.key bindingss_.order bindingss_.flwor bindingss_.quant_bind bindingss_.quantified bindingss_.conditional bindingss_.level grammars_.no_level grammars_.no_element grammars_.encoding grammars_.version grammars_.strip grammars_.setter grammars_.initial grammars_.var_decl grammars_.param grammars_.params grammars_.body grammars_.fun_decl grammars_.declaration grammars_.declarations grammars_.prolog grammars_.query bytes_.ends bytes_.char_ends bytes_.skip_from bytes_.found values_.reference values_.string_from values_.value_from tokens_.token pieces_.piece pieces_.is_xml chars_.is_char chars_.is_name_start chars_.is_name_char single_reads element_reads many_from
 paths = (refl, refl, refl, refl, refl, refl, refl, refl, refl, refl, refl, refl, refl, refl, refl, refl, refl, refl, refl)
 
 axes :
@@ -201,7 +201,7 @@ axes :
     × (reading (codes "child::") ≡ Err syntax_fault)
     × (accepted (codes "child::text()") ≡ true)
     × (reading (codes "child::1") ≡ Err syntax_fault)
-unfolding terminalss_.expr terminalss_.block typess_.plain_test typess_.target typess_.instruction_test typess_.last_argument typess_.named_argument typess_.element_test typess_.attribute_test typess_.kind_test typess_.any_item typess_.item_type typess_.occurs typess_.empty_type typess_.seq_type typess_.typ directs_.value_part directs_.double_quoted directs_.single_quoted directs_.value directs_.equals directs_.attribute directs_.attributes directs_.comment directs_.instruction directs_.direct_here directs_.direct directs_.content_part directs_.end_tag directs_.content directs_.elem primariess_.integer primariess_.literal primariess_.var primariess_.inside primariess_.paren primariess_.dot primariess_.arguments primariess_.call primariess_.build_name primariess_.target_name primariess_.build_content primariess_.named_builder primariess_.instruction_builder primariess_.block_builder primariess_.builder primariess_.primary pathss_.predicate pathss_.test pathss_.axis_step pathss_.at_step pathss_.any_step pathss_.named_step pathss_.up_step pathss_.step_kind pathss_.step pathss_.two pathss_.slashes pathss_.root pathss_.deep_root pathss_.path operatorss_.one_sign operatorss_.unary operatorss_.single_type operatorss_.cast_type operatorss_.cast operatorss_.castable_type operatorss_.castable operatorss_.treat_type operatorss_.treat operatorss_.instance_type operatorss_.instance operatorss_.intersect operatorss_.union operatorss_.times operatorss_.multiplied operatorss_.added operatorss_.range_end operatorss_.range operatorss_.compared_to operatorss_.comparison operatorss_.conjunction operatorss_.disjunction bindingss_.variable bindingss_.position bindingss_.for_bind bindingss_.let_bind bindingss_.for_clause bindingss_.let_clause bindingss_.clause bindingss_.clauses bindingss_.condition bindingss_.descending bindingss_.empty_greatest bindingss_.collation bindingss_.key bindingss_.order bindingss_.flwor bindingss_.quant_bind bindingss_.quantified bindingss_.conditional bindingss_.level grammars_.no_level grammars_.no_element grammars_.encoding grammars_.version grammars_.strip grammars_.setter grammars_.initial grammars_.var_decl grammars_.param grammars_.params grammars_.body grammars_.fun_decl grammars_.declaration grammars_.declarations grammars_.prolog grammars_.query bytes_.ends bytes_.char_ends bytes_.skip_from bytes_.found values_.reference values_.string_from values_.value_from tokens_.token pieces_.piece chars_.is_char chars_.is_name_start chars_.is_name_char single_reads element_reads many_from
+unfolding terminalss_.expr terminalss_.block typess_.plain_test typess_.target typess_.instruction_test typess_.last_argument typess_.named_argument typess_.element_test typess_.attribute_test typess_.kind_test typess_.any_item typess_.item_type typess_.occurs typess_.empty_type typess_.seq_type typess_.typ directs_.value_part directs_.double_quoted directs_.single_quoted directs_.value directs_.equals directs_.attribute directs_.attributes directs_.comment directs_.instruction directs_.direct_here directs_.direct directs_.content_part directs_.end_tag directs_.content directs_.elem primariess_.integer primariess_.literal primariess_.var primariess_.inside primariess_.paren primariess_.dot primariess_.arguments primariess_.call primariess_.build_name primariess_.target_name primariess_.build_content primariess_.named_builder primariess_.instruction_builder primariess_.block_builder primariess_.builder primariess_.primary pathss_.predicate pathss_.test pathss_.axis_step pathss_.at_step pathss_.any_step pathss_.named_step pathss_.up_step pathss_.step_kind pathss_.step pathss_.two pathss_.slashes pathss_.root pathss_.deep_root pathss_.path operatorss_.one_sign operatorss_.unary operatorss_.single_type operatorss_.cast_type operatorss_.cast operatorss_.castable_type operatorss_.castable operatorss_.treat_type operatorss_.treat operatorss_.instance_type operatorss_.instance operatorss_.intersect operatorss_.union operatorss_.times operatorss_.multiplied operatorss_.added operatorss_.range_end operatorss_.range operatorss_.compared_to operatorss_.comparison operatorss_.conjunction operatorss_.disjunction bindingss_.variable bindingss_.position bindingss_.for_bind bindingss_.let_bind bindingss_.for_clause bindingss_.let_clause bindingss_.clause bindingss_.clauses bindingss_.condition bindingss_.descending bindingss_.empty_greatest bindingss_.collation bindingss_.key bindingss_.order bindingss_.flwor bindingss_.quant_bind bindingss_.quantified bindingss_.conditional bindingss_.level grammars_.no_level grammars_.no_element grammars_.encoding grammars_.version grammars_.strip grammars_.setter grammars_.initial grammars_.var_decl grammars_.param grammars_.params grammars_.body grammars_.fun_decl grammars_.declaration grammars_.declarations grammars_.prolog grammars_.query bytes_.ends bytes_.char_ends bytes_.skip_from bytes_.found values_.reference values_.string_from values_.value_from tokens_.token pieces_.piece pieces_.is_xml chars_.is_char chars_.is_name_start chars_.is_name_char single_reads element_reads many_from
 axes = (refl, refl, refl, refl, refl, refl, refl, refl, refl, refl)
 
 tests_left_out :
@@ -213,7 +213,7 @@ tests_left_out :
     × (reading (codes "schema-element(a)") ≡ Err (cut left_out 0))
     × (reading (codes "document-node(element(a))") ≡ Err (cut left_out 0))
     × (reading (codes "element(a, b)") ≡ Err (cut left_out 9))
-unfolding terminalss_.expr terminalss_.block typess_.plain_test typess_.target typess_.instruction_test typess_.last_argument typess_.named_argument typess_.element_test typess_.attribute_test typess_.kind_test typess_.any_item typess_.item_type typess_.occurs typess_.empty_type typess_.seq_type typess_.typ directs_.value_part directs_.double_quoted directs_.single_quoted directs_.value directs_.equals directs_.attribute directs_.attributes directs_.comment directs_.instruction directs_.direct_here directs_.direct directs_.content_part directs_.end_tag directs_.content directs_.elem primariess_.integer primariess_.literal primariess_.var primariess_.inside primariess_.paren primariess_.dot primariess_.arguments primariess_.call primariess_.build_name primariess_.target_name primariess_.build_content primariess_.named_builder primariess_.instruction_builder primariess_.block_builder primariess_.builder primariess_.primary pathss_.predicate pathss_.test pathss_.axis_step pathss_.at_step pathss_.any_step pathss_.named_step pathss_.up_step pathss_.step_kind pathss_.step pathss_.two pathss_.slashes pathss_.root pathss_.deep_root pathss_.path operatorss_.one_sign operatorss_.unary operatorss_.single_type operatorss_.cast_type operatorss_.cast operatorss_.castable_type operatorss_.castable operatorss_.treat_type operatorss_.treat operatorss_.instance_type operatorss_.instance operatorss_.intersect operatorss_.union operatorss_.times operatorss_.multiplied operatorss_.added operatorss_.range_end operatorss_.range operatorss_.compared_to operatorss_.comparison operatorss_.conjunction operatorss_.disjunction bindingss_.variable bindingss_.position bindingss_.for_bind bindingss_.let_bind bindingss_.for_clause bindingss_.let_clause bindingss_.clause bindingss_.clauses bindingss_.condition bindingss_.descending bindingss_.empty_greatest bindingss_.collation bindingss_.key bindingss_.order bindingss_.flwor bindingss_.quant_bind bindingss_.quantified bindingss_.conditional bindingss_.level grammars_.no_level grammars_.no_element grammars_.encoding grammars_.version grammars_.strip grammars_.setter grammars_.initial grammars_.var_decl grammars_.param grammars_.params grammars_.body grammars_.fun_decl grammars_.declaration grammars_.declarations grammars_.prolog grammars_.query bytes_.ends bytes_.char_ends bytes_.skip_from bytes_.found values_.reference values_.string_from values_.value_from tokens_.token pieces_.piece chars_.is_char chars_.is_name_start chars_.is_name_char single_reads element_reads many_from
+unfolding terminalss_.expr terminalss_.block typess_.plain_test typess_.target typess_.instruction_test typess_.last_argument typess_.named_argument typess_.element_test typess_.attribute_test typess_.kind_test typess_.any_item typess_.item_type typess_.occurs typess_.empty_type typess_.seq_type typess_.typ directs_.value_part directs_.double_quoted directs_.single_quoted directs_.value directs_.equals directs_.attribute directs_.attributes directs_.comment directs_.instruction directs_.direct_here directs_.direct directs_.content_part directs_.end_tag directs_.content directs_.elem primariess_.integer primariess_.literal primariess_.var primariess_.inside primariess_.paren primariess_.dot primariess_.arguments primariess_.call primariess_.build_name primariess_.target_name primariess_.build_content primariess_.named_builder primariess_.instruction_builder primariess_.block_builder primariess_.builder primariess_.primary pathss_.predicate pathss_.test pathss_.axis_step pathss_.at_step pathss_.any_step pathss_.named_step pathss_.up_step pathss_.step_kind pathss_.step pathss_.two pathss_.slashes pathss_.root pathss_.deep_root pathss_.path operatorss_.one_sign operatorss_.unary operatorss_.single_type operatorss_.cast_type operatorss_.cast operatorss_.castable_type operatorss_.castable operatorss_.treat_type operatorss_.treat operatorss_.instance_type operatorss_.instance operatorss_.intersect operatorss_.union operatorss_.times operatorss_.multiplied operatorss_.added operatorss_.range_end operatorss_.range operatorss_.compared_to operatorss_.comparison operatorss_.conjunction operatorss_.disjunction bindingss_.variable bindingss_.position bindingss_.for_bind bindingss_.let_bind bindingss_.for_clause bindingss_.let_clause bindingss_.clause bindingss_.clauses bindingss_.condition bindingss_.descending bindingss_.empty_greatest bindingss_.collation bindingss_.key bindingss_.order bindingss_.flwor bindingss_.quant_bind bindingss_.quantified bindingss_.conditional bindingss_.level grammars_.no_level grammars_.no_element grammars_.encoding grammars_.version grammars_.strip grammars_.setter grammars_.initial grammars_.var_decl grammars_.param grammars_.params grammars_.body grammars_.fun_decl grammars_.declaration grammars_.declarations grammars_.prolog grammars_.query bytes_.ends bytes_.char_ends bytes_.skip_from bytes_.found values_.reference values_.string_from values_.value_from tokens_.token pieces_.piece pieces_.is_xml chars_.is_char chars_.is_name_start chars_.is_name_char single_reads element_reads many_from
 tests_left_out = (refl, refl, refl, refl, refl, refl, refl, refl)
 
 calls :
@@ -235,7 +235,7 @@ calls :
     × (reading (codes "typeswitch(1)") ≡ Err (cut left_out 0))
     × (reading (codes "1 + typeswitch(1)") ≡ Err syntax_fault)
     × (reading (codes "1 + avg(1)") ≡ Err (cut left_out 4))
-unfolding terminalss_.expr terminalss_.block typess_.plain_test typess_.target typess_.instruction_test typess_.last_argument typess_.named_argument typess_.element_test typess_.attribute_test typess_.kind_test typess_.any_item typess_.item_type typess_.occurs typess_.empty_type typess_.seq_type typess_.typ directs_.value_part directs_.double_quoted directs_.single_quoted directs_.value directs_.equals directs_.attribute directs_.attributes directs_.comment directs_.instruction directs_.direct_here directs_.direct directs_.content_part directs_.end_tag directs_.content directs_.elem primariess_.integer primariess_.literal primariess_.var primariess_.inside primariess_.paren primariess_.dot primariess_.arguments primariess_.call primariess_.build_name primariess_.target_name primariess_.build_content primariess_.named_builder primariess_.instruction_builder primariess_.block_builder primariess_.builder primariess_.primary pathss_.predicate pathss_.test pathss_.axis_step pathss_.at_step pathss_.any_step pathss_.named_step pathss_.up_step pathss_.step_kind pathss_.step pathss_.two pathss_.slashes pathss_.root pathss_.deep_root pathss_.path operatorss_.one_sign operatorss_.unary operatorss_.single_type operatorss_.cast_type operatorss_.cast operatorss_.castable_type operatorss_.castable operatorss_.treat_type operatorss_.treat operatorss_.instance_type operatorss_.instance operatorss_.intersect operatorss_.union operatorss_.times operatorss_.multiplied operatorss_.added operatorss_.range_end operatorss_.range operatorss_.compared_to operatorss_.comparison operatorss_.conjunction operatorss_.disjunction bindingss_.variable bindingss_.position bindingss_.for_bind bindingss_.let_bind bindingss_.for_clause bindingss_.let_clause bindingss_.clause bindingss_.clauses bindingss_.condition bindingss_.descending bindingss_.empty_greatest bindingss_.collation bindingss_.key bindingss_.order bindingss_.flwor bindingss_.quant_bind bindingss_.quantified bindingss_.conditional bindingss_.level grammars_.no_level grammars_.no_element grammars_.encoding grammars_.version grammars_.strip grammars_.setter grammars_.initial grammars_.var_decl grammars_.param grammars_.params grammars_.body grammars_.fun_decl grammars_.declaration grammars_.declarations grammars_.prolog grammars_.query bytes_.ends bytes_.char_ends bytes_.skip_from bytes_.found values_.reference values_.string_from values_.value_from tokens_.token pieces_.piece chars_.is_char chars_.is_name_start chars_.is_name_char single_reads element_reads many_from
+unfolding terminalss_.expr terminalss_.block typess_.plain_test typess_.target typess_.instruction_test typess_.last_argument typess_.named_argument typess_.element_test typess_.attribute_test typess_.kind_test typess_.any_item typess_.item_type typess_.occurs typess_.empty_type typess_.seq_type typess_.typ directs_.value_part directs_.double_quoted directs_.single_quoted directs_.value directs_.equals directs_.attribute directs_.attributes directs_.comment directs_.instruction directs_.direct_here directs_.direct directs_.content_part directs_.end_tag directs_.content directs_.elem primariess_.integer primariess_.literal primariess_.var primariess_.inside primariess_.paren primariess_.dot primariess_.arguments primariess_.call primariess_.build_name primariess_.target_name primariess_.build_content primariess_.named_builder primariess_.instruction_builder primariess_.block_builder primariess_.builder primariess_.primary pathss_.predicate pathss_.test pathss_.axis_step pathss_.at_step pathss_.any_step pathss_.named_step pathss_.up_step pathss_.step_kind pathss_.step pathss_.two pathss_.slashes pathss_.root pathss_.deep_root pathss_.path operatorss_.one_sign operatorss_.unary operatorss_.single_type operatorss_.cast_type operatorss_.cast operatorss_.castable_type operatorss_.castable operatorss_.treat_type operatorss_.treat operatorss_.instance_type operatorss_.instance operatorss_.intersect operatorss_.union operatorss_.times operatorss_.multiplied operatorss_.added operatorss_.range_end operatorss_.range operatorss_.compared_to operatorss_.comparison operatorss_.conjunction operatorss_.disjunction bindingss_.variable bindingss_.position bindingss_.for_bind bindingss_.let_bind bindingss_.for_clause bindingss_.let_clause bindingss_.clause bindingss_.clauses bindingss_.condition bindingss_.descending bindingss_.empty_greatest bindingss_.collation bindingss_.key bindingss_.order bindingss_.flwor bindingss_.quant_bind bindingss_.quantified bindingss_.conditional bindingss_.level grammars_.no_level grammars_.no_element grammars_.encoding grammars_.version grammars_.strip grammars_.setter grammars_.initial grammars_.var_decl grammars_.param grammars_.params grammars_.body grammars_.fun_decl grammars_.declaration grammars_.declarations grammars_.prolog grammars_.query bytes_.ends bytes_.char_ends bytes_.skip_from bytes_.found values_.reference values_.string_from values_.value_from tokens_.token pieces_.piece pieces_.is_xml chars_.is_char chars_.is_name_start chars_.is_name_char single_reads element_reads many_from
 calls = (refl, refl, refl, refl, refl, refl, refl, refl, refl, refl, refl, refl, refl, refl, refl, refl, refl, refl)
 
 blocks_left_out :
@@ -248,7 +248,7 @@ blocks_left_out :
     × (reading (codes "/validate {1}") ≡ Err (cut left_out 1))
     × (reading (codes "/(# a #) {1}") ≡ Err (cut left_out 1))
     × (accepted (codes "ordered") ≡ true)
-unfolding terminalss_.expr terminalss_.block typess_.plain_test typess_.target typess_.instruction_test typess_.last_argument typess_.named_argument typess_.element_test typess_.attribute_test typess_.kind_test typess_.any_item typess_.item_type typess_.occurs typess_.empty_type typess_.seq_type typess_.typ directs_.value_part directs_.double_quoted directs_.single_quoted directs_.value directs_.equals directs_.attribute directs_.attributes directs_.comment directs_.instruction directs_.direct_here directs_.direct directs_.content_part directs_.end_tag directs_.content directs_.elem primariess_.integer primariess_.literal primariess_.var primariess_.inside primariess_.paren primariess_.dot primariess_.arguments primariess_.call primariess_.build_name primariess_.target_name primariess_.build_content primariess_.named_builder primariess_.instruction_builder primariess_.block_builder primariess_.builder primariess_.primary pathss_.predicate pathss_.test pathss_.axis_step pathss_.at_step pathss_.any_step pathss_.named_step pathss_.up_step pathss_.step_kind pathss_.step pathss_.two pathss_.slashes pathss_.root pathss_.deep_root pathss_.path operatorss_.one_sign operatorss_.unary operatorss_.single_type operatorss_.cast_type operatorss_.cast operatorss_.castable_type operatorss_.castable operatorss_.treat_type operatorss_.treat operatorss_.instance_type operatorss_.instance operatorss_.intersect operatorss_.union operatorss_.times operatorss_.multiplied operatorss_.added operatorss_.range_end operatorss_.range operatorss_.compared_to operatorss_.comparison operatorss_.conjunction operatorss_.disjunction bindingss_.variable bindingss_.position bindingss_.for_bind bindingss_.let_bind bindingss_.for_clause bindingss_.let_clause bindingss_.clause bindingss_.clauses bindingss_.condition bindingss_.descending bindingss_.empty_greatest bindingss_.collation bindingss_.key bindingss_.order bindingss_.flwor bindingss_.quant_bind bindingss_.quantified bindingss_.conditional bindingss_.level grammars_.no_level grammars_.no_element grammars_.encoding grammars_.version grammars_.strip grammars_.setter grammars_.initial grammars_.var_decl grammars_.param grammars_.params grammars_.body grammars_.fun_decl grammars_.declaration grammars_.declarations grammars_.prolog grammars_.query bytes_.ends bytes_.char_ends bytes_.skip_from bytes_.found values_.reference values_.string_from values_.value_from tokens_.token pieces_.piece chars_.is_char chars_.is_name_start chars_.is_name_char single_reads element_reads many_from
+unfolding terminalss_.expr terminalss_.block typess_.plain_test typess_.target typess_.instruction_test typess_.last_argument typess_.named_argument typess_.element_test typess_.attribute_test typess_.kind_test typess_.any_item typess_.item_type typess_.occurs typess_.empty_type typess_.seq_type typess_.typ directs_.value_part directs_.double_quoted directs_.single_quoted directs_.value directs_.equals directs_.attribute directs_.attributes directs_.comment directs_.instruction directs_.direct_here directs_.direct directs_.content_part directs_.end_tag directs_.content directs_.elem primariess_.integer primariess_.literal primariess_.var primariess_.inside primariess_.paren primariess_.dot primariess_.arguments primariess_.call primariess_.build_name primariess_.target_name primariess_.build_content primariess_.named_builder primariess_.instruction_builder primariess_.block_builder primariess_.builder primariess_.primary pathss_.predicate pathss_.test pathss_.axis_step pathss_.at_step pathss_.any_step pathss_.named_step pathss_.up_step pathss_.step_kind pathss_.step pathss_.two pathss_.slashes pathss_.root pathss_.deep_root pathss_.path operatorss_.one_sign operatorss_.unary operatorss_.single_type operatorss_.cast_type operatorss_.cast operatorss_.castable_type operatorss_.castable operatorss_.treat_type operatorss_.treat operatorss_.instance_type operatorss_.instance operatorss_.intersect operatorss_.union operatorss_.times operatorss_.multiplied operatorss_.added operatorss_.range_end operatorss_.range operatorss_.compared_to operatorss_.comparison operatorss_.conjunction operatorss_.disjunction bindingss_.variable bindingss_.position bindingss_.for_bind bindingss_.let_bind bindingss_.for_clause bindingss_.let_clause bindingss_.clause bindingss_.clauses bindingss_.condition bindingss_.descending bindingss_.empty_greatest bindingss_.collation bindingss_.key bindingss_.order bindingss_.flwor bindingss_.quant_bind bindingss_.quantified bindingss_.conditional bindingss_.level grammars_.no_level grammars_.no_element grammars_.encoding grammars_.version grammars_.strip grammars_.setter grammars_.initial grammars_.var_decl grammars_.param grammars_.params grammars_.body grammars_.fun_decl grammars_.declaration grammars_.declarations grammars_.prolog grammars_.query bytes_.ends bytes_.char_ends bytes_.skip_from bytes_.found values_.reference values_.string_from values_.value_from tokens_.token pieces_.piece pieces_.is_xml chars_.is_char chars_.is_name_start chars_.is_name_char single_reads element_reads many_from
 blocks_left_out = (refl, refl, refl, refl, refl, refl, refl, refl, refl)
 
 builders :
@@ -266,7 +266,7 @@ builders :
     × (accepted (codes "element") ≡ true)
     × (reading (codes "element a") ≡ Err syntax_fault)
     × (reading (codes "text div {1}") ≡ Err (cut left_out 5))
-unfolding terminalss_.expr terminalss_.block typess_.plain_test typess_.target typess_.instruction_test typess_.last_argument typess_.named_argument typess_.element_test typess_.attribute_test typess_.kind_test typess_.any_item typess_.item_type typess_.occurs typess_.empty_type typess_.seq_type typess_.typ directs_.value_part directs_.double_quoted directs_.single_quoted directs_.value directs_.equals directs_.attribute directs_.attributes directs_.comment directs_.instruction directs_.direct_here directs_.direct directs_.content_part directs_.end_tag directs_.content directs_.elem primariess_.integer primariess_.literal primariess_.var primariess_.inside primariess_.paren primariess_.dot primariess_.arguments primariess_.call primariess_.build_name primariess_.target_name primariess_.build_content primariess_.named_builder primariess_.instruction_builder primariess_.block_builder primariess_.builder primariess_.primary pathss_.predicate pathss_.test pathss_.axis_step pathss_.at_step pathss_.any_step pathss_.named_step pathss_.up_step pathss_.step_kind pathss_.step pathss_.two pathss_.slashes pathss_.root pathss_.deep_root pathss_.path operatorss_.one_sign operatorss_.unary operatorss_.single_type operatorss_.cast_type operatorss_.cast operatorss_.castable_type operatorss_.castable operatorss_.treat_type operatorss_.treat operatorss_.instance_type operatorss_.instance operatorss_.intersect operatorss_.union operatorss_.times operatorss_.multiplied operatorss_.added operatorss_.range_end operatorss_.range operatorss_.compared_to operatorss_.comparison operatorss_.conjunction operatorss_.disjunction bindingss_.variable bindingss_.position bindingss_.for_bind bindingss_.let_bind bindingss_.for_clause bindingss_.let_clause bindingss_.clause bindingss_.clauses bindingss_.condition bindingss_.descending bindingss_.empty_greatest bindingss_.collation bindingss_.key bindingss_.order bindingss_.flwor bindingss_.quant_bind bindingss_.quantified bindingss_.conditional bindingss_.level grammars_.no_level grammars_.no_element grammars_.encoding grammars_.version grammars_.strip grammars_.setter grammars_.initial grammars_.var_decl grammars_.param grammars_.params grammars_.body grammars_.fun_decl grammars_.declaration grammars_.declarations grammars_.prolog grammars_.query bytes_.ends bytes_.char_ends bytes_.skip_from bytes_.found values_.reference values_.string_from values_.value_from tokens_.token pieces_.piece chars_.is_char chars_.is_name_start chars_.is_name_char single_reads element_reads many_from
+unfolding terminalss_.expr terminalss_.block typess_.plain_test typess_.target typess_.instruction_test typess_.last_argument typess_.named_argument typess_.element_test typess_.attribute_test typess_.kind_test typess_.any_item typess_.item_type typess_.occurs typess_.empty_type typess_.seq_type typess_.typ directs_.value_part directs_.double_quoted directs_.single_quoted directs_.value directs_.equals directs_.attribute directs_.attributes directs_.comment directs_.instruction directs_.direct_here directs_.direct directs_.content_part directs_.end_tag directs_.content directs_.elem primariess_.integer primariess_.literal primariess_.var primariess_.inside primariess_.paren primariess_.dot primariess_.arguments primariess_.call primariess_.build_name primariess_.target_name primariess_.build_content primariess_.named_builder primariess_.instruction_builder primariess_.block_builder primariess_.builder primariess_.primary pathss_.predicate pathss_.test pathss_.axis_step pathss_.at_step pathss_.any_step pathss_.named_step pathss_.up_step pathss_.step_kind pathss_.step pathss_.two pathss_.slashes pathss_.root pathss_.deep_root pathss_.path operatorss_.one_sign operatorss_.unary operatorss_.single_type operatorss_.cast_type operatorss_.cast operatorss_.castable_type operatorss_.castable operatorss_.treat_type operatorss_.treat operatorss_.instance_type operatorss_.instance operatorss_.intersect operatorss_.union operatorss_.times operatorss_.multiplied operatorss_.added operatorss_.range_end operatorss_.range operatorss_.compared_to operatorss_.comparison operatorss_.conjunction operatorss_.disjunction bindingss_.variable bindingss_.position bindingss_.for_bind bindingss_.let_bind bindingss_.for_clause bindingss_.let_clause bindingss_.clause bindingss_.clauses bindingss_.condition bindingss_.descending bindingss_.empty_greatest bindingss_.collation bindingss_.key bindingss_.order bindingss_.flwor bindingss_.quant_bind bindingss_.quantified bindingss_.conditional bindingss_.level grammars_.no_level grammars_.no_element grammars_.encoding grammars_.version grammars_.strip grammars_.setter grammars_.initial grammars_.var_decl grammars_.param grammars_.params grammars_.body grammars_.fun_decl grammars_.declaration grammars_.declarations grammars_.prolog grammars_.query bytes_.ends bytes_.char_ends bytes_.skip_from bytes_.found values_.reference values_.string_from values_.value_from tokens_.token pieces_.piece pieces_.is_xml chars_.is_char chars_.is_name_start chars_.is_name_char single_reads element_reads many_from
 builders = (refl, refl, refl, refl, refl, refl, refl, refl, refl, refl, refl, refl, refl, refl)
 
 flwor :
@@ -279,7 +279,7 @@ flwor :
     × (reading (codes "for $x in 1") ≡ Err syntax_fault)
     × (reading (codes "for x in 1") ≡ Err syntax_fault)
     × (reading (codes "1 + for $x in 1 return 2") ≡ Err syntax_fault)
-unfolding terminalss_.expr terminalss_.block typess_.plain_test typess_.target typess_.instruction_test typess_.last_argument typess_.named_argument typess_.element_test typess_.attribute_test typess_.kind_test typess_.any_item typess_.item_type typess_.occurs typess_.empty_type typess_.seq_type typess_.typ directs_.value_part directs_.double_quoted directs_.single_quoted directs_.value directs_.equals directs_.attribute directs_.attributes directs_.comment directs_.instruction directs_.direct_here directs_.direct directs_.content_part directs_.end_tag directs_.content directs_.elem primariess_.integer primariess_.literal primariess_.var primariess_.inside primariess_.paren primariess_.dot primariess_.arguments primariess_.call primariess_.build_name primariess_.target_name primariess_.build_content primariess_.named_builder primariess_.instruction_builder primariess_.block_builder primariess_.builder primariess_.primary pathss_.predicate pathss_.test pathss_.axis_step pathss_.at_step pathss_.any_step pathss_.named_step pathss_.up_step pathss_.step_kind pathss_.step pathss_.two pathss_.slashes pathss_.root pathss_.deep_root pathss_.path operatorss_.one_sign operatorss_.unary operatorss_.single_type operatorss_.cast_type operatorss_.cast operatorss_.castable_type operatorss_.castable operatorss_.treat_type operatorss_.treat operatorss_.instance_type operatorss_.instance operatorss_.intersect operatorss_.union operatorss_.times operatorss_.multiplied operatorss_.added operatorss_.range_end operatorss_.range operatorss_.compared_to operatorss_.comparison operatorss_.conjunction operatorss_.disjunction bindingss_.variable bindingss_.position bindingss_.for_bind bindingss_.let_bind bindingss_.for_clause bindingss_.let_clause bindingss_.clause bindingss_.clauses bindingss_.condition bindingss_.descending bindingss_.empty_greatest bindingss_.collation bindingss_.key bindingss_.order bindingss_.flwor bindingss_.quant_bind bindingss_.quantified bindingss_.conditional bindingss_.level grammars_.no_level grammars_.no_element grammars_.encoding grammars_.version grammars_.strip grammars_.setter grammars_.initial grammars_.var_decl grammars_.param grammars_.params grammars_.body grammars_.fun_decl grammars_.declaration grammars_.declarations grammars_.prolog grammars_.query bytes_.ends bytes_.char_ends bytes_.skip_from bytes_.found values_.reference values_.string_from values_.value_from tokens_.token pieces_.piece chars_.is_char chars_.is_name_start chars_.is_name_char single_reads element_reads many_from
+unfolding terminalss_.expr terminalss_.block typess_.plain_test typess_.target typess_.instruction_test typess_.last_argument typess_.named_argument typess_.element_test typess_.attribute_test typess_.kind_test typess_.any_item typess_.item_type typess_.occurs typess_.empty_type typess_.seq_type typess_.typ directs_.value_part directs_.double_quoted directs_.single_quoted directs_.value directs_.equals directs_.attribute directs_.attributes directs_.comment directs_.instruction directs_.direct_here directs_.direct directs_.content_part directs_.end_tag directs_.content directs_.elem primariess_.integer primariess_.literal primariess_.var primariess_.inside primariess_.paren primariess_.dot primariess_.arguments primariess_.call primariess_.build_name primariess_.target_name primariess_.build_content primariess_.named_builder primariess_.instruction_builder primariess_.block_builder primariess_.builder primariess_.primary pathss_.predicate pathss_.test pathss_.axis_step pathss_.at_step pathss_.any_step pathss_.named_step pathss_.up_step pathss_.step_kind pathss_.step pathss_.two pathss_.slashes pathss_.root pathss_.deep_root pathss_.path operatorss_.one_sign operatorss_.unary operatorss_.single_type operatorss_.cast_type operatorss_.cast operatorss_.castable_type operatorss_.castable operatorss_.treat_type operatorss_.treat operatorss_.instance_type operatorss_.instance operatorss_.intersect operatorss_.union operatorss_.times operatorss_.multiplied operatorss_.added operatorss_.range_end operatorss_.range operatorss_.compared_to operatorss_.comparison operatorss_.conjunction operatorss_.disjunction bindingss_.variable bindingss_.position bindingss_.for_bind bindingss_.let_bind bindingss_.for_clause bindingss_.let_clause bindingss_.clause bindingss_.clauses bindingss_.condition bindingss_.descending bindingss_.empty_greatest bindingss_.collation bindingss_.key bindingss_.order bindingss_.flwor bindingss_.quant_bind bindingss_.quantified bindingss_.conditional bindingss_.level grammars_.no_level grammars_.no_element grammars_.encoding grammars_.version grammars_.strip grammars_.setter grammars_.initial grammars_.var_decl grammars_.param grammars_.params grammars_.body grammars_.fun_decl grammars_.declaration grammars_.declarations grammars_.prolog grammars_.query bytes_.ends bytes_.char_ends bytes_.skip_from bytes_.found values_.reference values_.string_from values_.value_from tokens_.token pieces_.piece pieces_.is_xml chars_.is_char chars_.is_name_start chars_.is_name_char single_reads element_reads many_from
 flwor = (refl, refl, refl, refl, refl, refl, refl, refl, refl)
 
 orders :
@@ -287,7 +287,7 @@ orders :
     × (accepted (codes "for $x in 1 stable order by 1 descending empty greatest, 2 return 2") ≡ true)
     × (reading (codes "for $x in 1 order by 1 collation 'a' return 2") ≡ Err (cut left_out 23))
     × (reading (codes "for $x in 1 order by 1 empty return 2") ≡ Err syntax_fault)
-unfolding terminalss_.expr terminalss_.block typess_.plain_test typess_.target typess_.instruction_test typess_.last_argument typess_.named_argument typess_.element_test typess_.attribute_test typess_.kind_test typess_.any_item typess_.item_type typess_.occurs typess_.empty_type typess_.seq_type typess_.typ directs_.value_part directs_.double_quoted directs_.single_quoted directs_.value directs_.equals directs_.attribute directs_.attributes directs_.comment directs_.instruction directs_.direct_here directs_.direct directs_.content_part directs_.end_tag directs_.content directs_.elem primariess_.integer primariess_.literal primariess_.var primariess_.inside primariess_.paren primariess_.dot primariess_.arguments primariess_.call primariess_.build_name primariess_.target_name primariess_.build_content primariess_.named_builder primariess_.instruction_builder primariess_.block_builder primariess_.builder primariess_.primary pathss_.predicate pathss_.test pathss_.axis_step pathss_.at_step pathss_.any_step pathss_.named_step pathss_.up_step pathss_.step_kind pathss_.step pathss_.two pathss_.slashes pathss_.root pathss_.deep_root pathss_.path operatorss_.one_sign operatorss_.unary operatorss_.single_type operatorss_.cast_type operatorss_.cast operatorss_.castable_type operatorss_.castable operatorss_.treat_type operatorss_.treat operatorss_.instance_type operatorss_.instance operatorss_.intersect operatorss_.union operatorss_.times operatorss_.multiplied operatorss_.added operatorss_.range_end operatorss_.range operatorss_.compared_to operatorss_.comparison operatorss_.conjunction operatorss_.disjunction bindingss_.variable bindingss_.position bindingss_.for_bind bindingss_.let_bind bindingss_.for_clause bindingss_.let_clause bindingss_.clause bindingss_.clauses bindingss_.condition bindingss_.descending bindingss_.empty_greatest bindingss_.collation bindingss_.key bindingss_.order bindingss_.flwor bindingss_.quant_bind bindingss_.quantified bindingss_.conditional bindingss_.level grammars_.no_level grammars_.no_element grammars_.encoding grammars_.version grammars_.strip grammars_.setter grammars_.initial grammars_.var_decl grammars_.param grammars_.params grammars_.body grammars_.fun_decl grammars_.declaration grammars_.declarations grammars_.prolog grammars_.query bytes_.ends bytes_.char_ends bytes_.skip_from bytes_.found values_.reference values_.string_from values_.value_from tokens_.token pieces_.piece chars_.is_char chars_.is_name_start chars_.is_name_char single_reads element_reads many_from
+unfolding terminalss_.expr terminalss_.block typess_.plain_test typess_.target typess_.instruction_test typess_.last_argument typess_.named_argument typess_.element_test typess_.attribute_test typess_.kind_test typess_.any_item typess_.item_type typess_.occurs typess_.empty_type typess_.seq_type typess_.typ directs_.value_part directs_.double_quoted directs_.single_quoted directs_.value directs_.equals directs_.attribute directs_.attributes directs_.comment directs_.instruction directs_.direct_here directs_.direct directs_.content_part directs_.end_tag directs_.content directs_.elem primariess_.integer primariess_.literal primariess_.var primariess_.inside primariess_.paren primariess_.dot primariess_.arguments primariess_.call primariess_.build_name primariess_.target_name primariess_.build_content primariess_.named_builder primariess_.instruction_builder primariess_.block_builder primariess_.builder primariess_.primary pathss_.predicate pathss_.test pathss_.axis_step pathss_.at_step pathss_.any_step pathss_.named_step pathss_.up_step pathss_.step_kind pathss_.step pathss_.two pathss_.slashes pathss_.root pathss_.deep_root pathss_.path operatorss_.one_sign operatorss_.unary operatorss_.single_type operatorss_.cast_type operatorss_.cast operatorss_.castable_type operatorss_.castable operatorss_.treat_type operatorss_.treat operatorss_.instance_type operatorss_.instance operatorss_.intersect operatorss_.union operatorss_.times operatorss_.multiplied operatorss_.added operatorss_.range_end operatorss_.range operatorss_.compared_to operatorss_.comparison operatorss_.conjunction operatorss_.disjunction bindingss_.variable bindingss_.position bindingss_.for_bind bindingss_.let_bind bindingss_.for_clause bindingss_.let_clause bindingss_.clause bindingss_.clauses bindingss_.condition bindingss_.descending bindingss_.empty_greatest bindingss_.collation bindingss_.key bindingss_.order bindingss_.flwor bindingss_.quant_bind bindingss_.quantified bindingss_.conditional bindingss_.level grammars_.no_level grammars_.no_element grammars_.encoding grammars_.version grammars_.strip grammars_.setter grammars_.initial grammars_.var_decl grammars_.param grammars_.params grammars_.body grammars_.fun_decl grammars_.declaration grammars_.declarations grammars_.prolog grammars_.query bytes_.ends bytes_.char_ends bytes_.skip_from bytes_.found values_.reference values_.string_from values_.value_from tokens_.token pieces_.piece pieces_.is_xml chars_.is_char chars_.is_name_start chars_.is_name_char single_reads element_reads many_from
 orders = (refl, refl, refl, refl)
 
 quantifiers :
@@ -297,7 +297,7 @@ quantifiers :
     × (accepted (codes "if (1) then 2 else 3") ≡ true)
     × (reading (codes "if (1) then 2") ≡ Err syntax_fault)
     × (accepted (codes "some") ≡ true)
-unfolding terminalss_.expr terminalss_.block typess_.plain_test typess_.target typess_.instruction_test typess_.last_argument typess_.named_argument typess_.element_test typess_.attribute_test typess_.kind_test typess_.any_item typess_.item_type typess_.occurs typess_.empty_type typess_.seq_type typess_.typ directs_.value_part directs_.double_quoted directs_.single_quoted directs_.value directs_.equals directs_.attribute directs_.attributes directs_.comment directs_.instruction directs_.direct_here directs_.direct directs_.content_part directs_.end_tag directs_.content directs_.elem primariess_.integer primariess_.literal primariess_.var primariess_.inside primariess_.paren primariess_.dot primariess_.arguments primariess_.call primariess_.build_name primariess_.target_name primariess_.build_content primariess_.named_builder primariess_.instruction_builder primariess_.block_builder primariess_.builder primariess_.primary pathss_.predicate pathss_.test pathss_.axis_step pathss_.at_step pathss_.any_step pathss_.named_step pathss_.up_step pathss_.step_kind pathss_.step pathss_.two pathss_.slashes pathss_.root pathss_.deep_root pathss_.path operatorss_.one_sign operatorss_.unary operatorss_.single_type operatorss_.cast_type operatorss_.cast operatorss_.castable_type operatorss_.castable operatorss_.treat_type operatorss_.treat operatorss_.instance_type operatorss_.instance operatorss_.intersect operatorss_.union operatorss_.times operatorss_.multiplied operatorss_.added operatorss_.range_end operatorss_.range operatorss_.compared_to operatorss_.comparison operatorss_.conjunction operatorss_.disjunction bindingss_.variable bindingss_.position bindingss_.for_bind bindingss_.let_bind bindingss_.for_clause bindingss_.let_clause bindingss_.clause bindingss_.clauses bindingss_.condition bindingss_.descending bindingss_.empty_greatest bindingss_.collation bindingss_.key bindingss_.order bindingss_.flwor bindingss_.quant_bind bindingss_.quantified bindingss_.conditional bindingss_.level grammars_.no_level grammars_.no_element grammars_.encoding grammars_.version grammars_.strip grammars_.setter grammars_.initial grammars_.var_decl grammars_.param grammars_.params grammars_.body grammars_.fun_decl grammars_.declaration grammars_.declarations grammars_.prolog grammars_.query bytes_.ends bytes_.char_ends bytes_.skip_from bytes_.found values_.reference values_.string_from values_.value_from tokens_.token pieces_.piece chars_.is_char chars_.is_name_start chars_.is_name_char single_reads element_reads many_from
+unfolding terminalss_.expr terminalss_.block typess_.plain_test typess_.target typess_.instruction_test typess_.last_argument typess_.named_argument typess_.element_test typess_.attribute_test typess_.kind_test typess_.any_item typess_.item_type typess_.occurs typess_.empty_type typess_.seq_type typess_.typ directs_.value_part directs_.double_quoted directs_.single_quoted directs_.value directs_.equals directs_.attribute directs_.attributes directs_.comment directs_.instruction directs_.direct_here directs_.direct directs_.content_part directs_.end_tag directs_.content directs_.elem primariess_.integer primariess_.literal primariess_.var primariess_.inside primariess_.paren primariess_.dot primariess_.arguments primariess_.call primariess_.build_name primariess_.target_name primariess_.build_content primariess_.named_builder primariess_.instruction_builder primariess_.block_builder primariess_.builder primariess_.primary pathss_.predicate pathss_.test pathss_.axis_step pathss_.at_step pathss_.any_step pathss_.named_step pathss_.up_step pathss_.step_kind pathss_.step pathss_.two pathss_.slashes pathss_.root pathss_.deep_root pathss_.path operatorss_.one_sign operatorss_.unary operatorss_.single_type operatorss_.cast_type operatorss_.cast operatorss_.castable_type operatorss_.castable operatorss_.treat_type operatorss_.treat operatorss_.instance_type operatorss_.instance operatorss_.intersect operatorss_.union operatorss_.times operatorss_.multiplied operatorss_.added operatorss_.range_end operatorss_.range operatorss_.compared_to operatorss_.comparison operatorss_.conjunction operatorss_.disjunction bindingss_.variable bindingss_.position bindingss_.for_bind bindingss_.let_bind bindingss_.for_clause bindingss_.let_clause bindingss_.clause bindingss_.clauses bindingss_.condition bindingss_.descending bindingss_.empty_greatest bindingss_.collation bindingss_.key bindingss_.order bindingss_.flwor bindingss_.quant_bind bindingss_.quantified bindingss_.conditional bindingss_.level grammars_.no_level grammars_.no_element grammars_.encoding grammars_.version grammars_.strip grammars_.setter grammars_.initial grammars_.var_decl grammars_.param grammars_.params grammars_.body grammars_.fun_decl grammars_.declaration grammars_.declarations grammars_.prolog grammars_.query bytes_.ends bytes_.char_ends bytes_.skip_from bytes_.found values_.reference values_.string_from values_.value_from tokens_.token pieces_.piece pieces_.is_xml chars_.is_char chars_.is_name_start chars_.is_name_char single_reads element_reads many_from
 quantifiers = (refl, refl, refl, refl, refl, refl)
 
 elements :
@@ -315,7 +315,7 @@ elements :
     × (reading (codes "<a>{}</a>") ≡ Err syntax_fault)
     × (accepted (codes "<a>&lt;</a>") ≡ true)
     × (reading (codes "<a>&x;</a>") ≡ Err syntax_fault)
-unfolding terminalss_.expr terminalss_.block typess_.plain_test typess_.target typess_.instruction_test typess_.last_argument typess_.named_argument typess_.element_test typess_.attribute_test typess_.kind_test typess_.any_item typess_.item_type typess_.occurs typess_.empty_type typess_.seq_type typess_.typ directs_.value_part directs_.double_quoted directs_.single_quoted directs_.value directs_.equals directs_.attribute directs_.attributes directs_.comment directs_.instruction directs_.direct_here directs_.direct directs_.content_part directs_.end_tag directs_.content directs_.elem primariess_.integer primariess_.literal primariess_.var primariess_.inside primariess_.paren primariess_.dot primariess_.arguments primariess_.call primariess_.build_name primariess_.target_name primariess_.build_content primariess_.named_builder primariess_.instruction_builder primariess_.block_builder primariess_.builder primariess_.primary pathss_.predicate pathss_.test pathss_.axis_step pathss_.at_step pathss_.any_step pathss_.named_step pathss_.up_step pathss_.step_kind pathss_.step pathss_.two pathss_.slashes pathss_.root pathss_.deep_root pathss_.path operatorss_.one_sign operatorss_.unary operatorss_.single_type operatorss_.cast_type operatorss_.cast operatorss_.castable_type operatorss_.castable operatorss_.treat_type operatorss_.treat operatorss_.instance_type operatorss_.instance operatorss_.intersect operatorss_.union operatorss_.times operatorss_.multiplied operatorss_.added operatorss_.range_end operatorss_.range operatorss_.compared_to operatorss_.comparison operatorss_.conjunction operatorss_.disjunction bindingss_.variable bindingss_.position bindingss_.for_bind bindingss_.let_bind bindingss_.for_clause bindingss_.let_clause bindingss_.clause bindingss_.clauses bindingss_.condition bindingss_.descending bindingss_.empty_greatest bindingss_.collation bindingss_.key bindingss_.order bindingss_.flwor bindingss_.quant_bind bindingss_.quantified bindingss_.conditional bindingss_.level grammars_.no_level grammars_.no_element grammars_.encoding grammars_.version grammars_.strip grammars_.setter grammars_.initial grammars_.var_decl grammars_.param grammars_.params grammars_.body grammars_.fun_decl grammars_.declaration grammars_.declarations grammars_.prolog grammars_.query bytes_.ends bytes_.char_ends bytes_.skip_from bytes_.found values_.reference values_.string_from values_.value_from tokens_.token pieces_.piece chars_.is_char chars_.is_name_start chars_.is_name_char single_reads element_reads many_from
+unfolding terminalss_.expr terminalss_.block typess_.plain_test typess_.target typess_.instruction_test typess_.last_argument typess_.named_argument typess_.element_test typess_.attribute_test typess_.kind_test typess_.any_item typess_.item_type typess_.occurs typess_.empty_type typess_.seq_type typess_.typ directs_.value_part directs_.double_quoted directs_.single_quoted directs_.value directs_.equals directs_.attribute directs_.attributes directs_.comment directs_.instruction directs_.direct_here directs_.direct directs_.content_part directs_.end_tag directs_.content directs_.elem primariess_.integer primariess_.literal primariess_.var primariess_.inside primariess_.paren primariess_.dot primariess_.arguments primariess_.call primariess_.build_name primariess_.target_name primariess_.build_content primariess_.named_builder primariess_.instruction_builder primariess_.block_builder primariess_.builder primariess_.primary pathss_.predicate pathss_.test pathss_.axis_step pathss_.at_step pathss_.any_step pathss_.named_step pathss_.up_step pathss_.step_kind pathss_.step pathss_.two pathss_.slashes pathss_.root pathss_.deep_root pathss_.path operatorss_.one_sign operatorss_.unary operatorss_.single_type operatorss_.cast_type operatorss_.cast operatorss_.castable_type operatorss_.castable operatorss_.treat_type operatorss_.treat operatorss_.instance_type operatorss_.instance operatorss_.intersect operatorss_.union operatorss_.times operatorss_.multiplied operatorss_.added operatorss_.range_end operatorss_.range operatorss_.compared_to operatorss_.comparison operatorss_.conjunction operatorss_.disjunction bindingss_.variable bindingss_.position bindingss_.for_bind bindingss_.let_bind bindingss_.for_clause bindingss_.let_clause bindingss_.clause bindingss_.clauses bindingss_.condition bindingss_.descending bindingss_.empty_greatest bindingss_.collation bindingss_.key bindingss_.order bindingss_.flwor bindingss_.quant_bind bindingss_.quantified bindingss_.conditional bindingss_.level grammars_.no_level grammars_.no_element grammars_.encoding grammars_.version grammars_.strip grammars_.setter grammars_.initial grammars_.var_decl grammars_.param grammars_.params grammars_.body grammars_.fun_decl grammars_.declaration grammars_.declarations grammars_.prolog grammars_.query bytes_.ends bytes_.char_ends bytes_.skip_from bytes_.found values_.reference values_.string_from values_.value_from tokens_.token pieces_.piece pieces_.is_xml chars_.is_char chars_.is_name_start chars_.is_name_char single_reads element_reads many_from
 elements = (refl, refl, refl, refl, refl, refl, refl, refl, refl, refl, refl, refl, refl, refl)
 
 values :
@@ -326,7 +326,7 @@ values :
     × (accepted (codes "<a b='&lt;'/>") ≡ true)
     × (reading (codes "<a b='<'/>") ≡ Err syntax_fault)
     × (accepted (codes "<a b=\"'\"/>") ≡ true)
-unfolding terminalss_.expr terminalss_.block typess_.plain_test typess_.target typess_.instruction_test typess_.last_argument typess_.named_argument typess_.element_test typess_.attribute_test typess_.kind_test typess_.any_item typess_.item_type typess_.occurs typess_.empty_type typess_.seq_type typess_.typ directs_.value_part directs_.double_quoted directs_.single_quoted directs_.value directs_.equals directs_.attribute directs_.attributes directs_.comment directs_.instruction directs_.direct_here directs_.direct directs_.content_part directs_.end_tag directs_.content directs_.elem primariess_.integer primariess_.literal primariess_.var primariess_.inside primariess_.paren primariess_.dot primariess_.arguments primariess_.call primariess_.build_name primariess_.target_name primariess_.build_content primariess_.named_builder primariess_.instruction_builder primariess_.block_builder primariess_.builder primariess_.primary pathss_.predicate pathss_.test pathss_.axis_step pathss_.at_step pathss_.any_step pathss_.named_step pathss_.up_step pathss_.step_kind pathss_.step pathss_.two pathss_.slashes pathss_.root pathss_.deep_root pathss_.path operatorss_.one_sign operatorss_.unary operatorss_.single_type operatorss_.cast_type operatorss_.cast operatorss_.castable_type operatorss_.castable operatorss_.treat_type operatorss_.treat operatorss_.instance_type operatorss_.instance operatorss_.intersect operatorss_.union operatorss_.times operatorss_.multiplied operatorss_.added operatorss_.range_end operatorss_.range operatorss_.compared_to operatorss_.comparison operatorss_.conjunction operatorss_.disjunction bindingss_.variable bindingss_.position bindingss_.for_bind bindingss_.let_bind bindingss_.for_clause bindingss_.let_clause bindingss_.clause bindingss_.clauses bindingss_.condition bindingss_.descending bindingss_.empty_greatest bindingss_.collation bindingss_.key bindingss_.order bindingss_.flwor bindingss_.quant_bind bindingss_.quantified bindingss_.conditional bindingss_.level grammars_.no_level grammars_.no_element grammars_.encoding grammars_.version grammars_.strip grammars_.setter grammars_.initial grammars_.var_decl grammars_.param grammars_.params grammars_.body grammars_.fun_decl grammars_.declaration grammars_.declarations grammars_.prolog grammars_.query bytes_.ends bytes_.char_ends bytes_.skip_from bytes_.found values_.reference values_.string_from values_.value_from tokens_.token pieces_.piece chars_.is_char chars_.is_name_start chars_.is_name_char single_reads element_reads many_from
+unfolding terminalss_.expr terminalss_.block typess_.plain_test typess_.target typess_.instruction_test typess_.last_argument typess_.named_argument typess_.element_test typess_.attribute_test typess_.kind_test typess_.any_item typess_.item_type typess_.occurs typess_.empty_type typess_.seq_type typess_.typ directs_.value_part directs_.double_quoted directs_.single_quoted directs_.value directs_.equals directs_.attribute directs_.attributes directs_.comment directs_.instruction directs_.direct_here directs_.direct directs_.content_part directs_.end_tag directs_.content directs_.elem primariess_.integer primariess_.literal primariess_.var primariess_.inside primariess_.paren primariess_.dot primariess_.arguments primariess_.call primariess_.build_name primariess_.target_name primariess_.build_content primariess_.named_builder primariess_.instruction_builder primariess_.block_builder primariess_.builder primariess_.primary pathss_.predicate pathss_.test pathss_.axis_step pathss_.at_step pathss_.any_step pathss_.named_step pathss_.up_step pathss_.step_kind pathss_.step pathss_.two pathss_.slashes pathss_.root pathss_.deep_root pathss_.path operatorss_.one_sign operatorss_.unary operatorss_.single_type operatorss_.cast_type operatorss_.cast operatorss_.castable_type operatorss_.castable operatorss_.treat_type operatorss_.treat operatorss_.instance_type operatorss_.instance operatorss_.intersect operatorss_.union operatorss_.times operatorss_.multiplied operatorss_.added operatorss_.range_end operatorss_.range operatorss_.compared_to operatorss_.comparison operatorss_.conjunction operatorss_.disjunction bindingss_.variable bindingss_.position bindingss_.for_bind bindingss_.let_bind bindingss_.for_clause bindingss_.let_clause bindingss_.clause bindingss_.clauses bindingss_.condition bindingss_.descending bindingss_.empty_greatest bindingss_.collation bindingss_.key bindingss_.order bindingss_.flwor bindingss_.quant_bind bindingss_.quantified bindingss_.conditional bindingss_.level grammars_.no_level grammars_.no_element grammars_.encoding grammars_.version grammars_.strip grammars_.setter grammars_.initial grammars_.var_decl grammars_.param grammars_.params grammars_.body grammars_.fun_decl grammars_.declaration grammars_.declarations grammars_.prolog grammars_.query bytes_.ends bytes_.char_ends bytes_.skip_from bytes_.found values_.reference values_.string_from values_.value_from tokens_.token pieces_.piece pieces_.is_xml chars_.is_char chars_.is_name_start chars_.is_name_char single_reads element_reads many_from
 values = (refl, refl, refl, refl, refl, refl, refl)
 
 comments_and_instructions :
@@ -339,7 +339,7 @@ comments_and_instructions :
     × (accepted (codes "<?a:b?>") ≡ true)
     × (accepted (codes "<a><!----><?b?></a>") ≡ true)
     × (accepted (codes "<a><![CDATA[<]]></a>") ≡ true)
-unfolding terminalss_.expr terminalss_.block typess_.plain_test typess_.target typess_.instruction_test typess_.last_argument typess_.named_argument typess_.element_test typess_.attribute_test typess_.kind_test typess_.any_item typess_.item_type typess_.occurs typess_.empty_type typess_.seq_type typess_.typ directs_.value_part directs_.double_quoted directs_.single_quoted directs_.value directs_.equals directs_.attribute directs_.attributes directs_.comment directs_.instruction directs_.direct_here directs_.direct directs_.content_part directs_.end_tag directs_.content directs_.elem primariess_.integer primariess_.literal primariess_.var primariess_.inside primariess_.paren primariess_.dot primariess_.arguments primariess_.call primariess_.build_name primariess_.target_name primariess_.build_content primariess_.named_builder primariess_.instruction_builder primariess_.block_builder primariess_.builder primariess_.primary pathss_.predicate pathss_.test pathss_.axis_step pathss_.at_step pathss_.any_step pathss_.named_step pathss_.up_step pathss_.step_kind pathss_.step pathss_.two pathss_.slashes pathss_.root pathss_.deep_root pathss_.path operatorss_.one_sign operatorss_.unary operatorss_.single_type operatorss_.cast_type operatorss_.cast operatorss_.castable_type operatorss_.castable operatorss_.treat_type operatorss_.treat operatorss_.instance_type operatorss_.instance operatorss_.intersect operatorss_.union operatorss_.times operatorss_.multiplied operatorss_.added operatorss_.range_end operatorss_.range operatorss_.compared_to operatorss_.comparison operatorss_.conjunction operatorss_.disjunction bindingss_.variable bindingss_.position bindingss_.for_bind bindingss_.let_bind bindingss_.for_clause bindingss_.let_clause bindingss_.clause bindingss_.clauses bindingss_.condition bindingss_.descending bindingss_.empty_greatest bindingss_.collation bindingss_.key bindingss_.order bindingss_.flwor bindingss_.quant_bind bindingss_.quantified bindingss_.conditional bindingss_.level grammars_.no_level grammars_.no_element grammars_.encoding grammars_.version grammars_.strip grammars_.setter grammars_.initial grammars_.var_decl grammars_.param grammars_.params grammars_.body grammars_.fun_decl grammars_.declaration grammars_.declarations grammars_.prolog grammars_.query bytes_.ends bytes_.char_ends bytes_.skip_from bytes_.found values_.reference values_.string_from values_.value_from tokens_.token pieces_.piece chars_.is_char chars_.is_name_start chars_.is_name_char single_reads element_reads many_from
+unfolding terminalss_.expr terminalss_.block typess_.plain_test typess_.target typess_.instruction_test typess_.last_argument typess_.named_argument typess_.element_test typess_.attribute_test typess_.kind_test typess_.any_item typess_.item_type typess_.occurs typess_.empty_type typess_.seq_type typess_.typ directs_.value_part directs_.double_quoted directs_.single_quoted directs_.value directs_.equals directs_.attribute directs_.attributes directs_.comment directs_.instruction directs_.direct_here directs_.direct directs_.content_part directs_.end_tag directs_.content directs_.elem primariess_.integer primariess_.literal primariess_.var primariess_.inside primariess_.paren primariess_.dot primariess_.arguments primariess_.call primariess_.build_name primariess_.target_name primariess_.build_content primariess_.named_builder primariess_.instruction_builder primariess_.block_builder primariess_.builder primariess_.primary pathss_.predicate pathss_.test pathss_.axis_step pathss_.at_step pathss_.any_step pathss_.named_step pathss_.up_step pathss_.step_kind pathss_.step pathss_.two pathss_.slashes pathss_.root pathss_.deep_root pathss_.path operatorss_.one_sign operatorss_.unary operatorss_.single_type operatorss_.cast_type operatorss_.cast operatorss_.castable_type operatorss_.castable operatorss_.treat_type operatorss_.treat operatorss_.instance_type operatorss_.instance operatorss_.intersect operatorss_.union operatorss_.times operatorss_.multiplied operatorss_.added operatorss_.range_end operatorss_.range operatorss_.compared_to operatorss_.comparison operatorss_.conjunction operatorss_.disjunction bindingss_.variable bindingss_.position bindingss_.for_bind bindingss_.let_bind bindingss_.for_clause bindingss_.let_clause bindingss_.clause bindingss_.clauses bindingss_.condition bindingss_.descending bindingss_.empty_greatest bindingss_.collation bindingss_.key bindingss_.order bindingss_.flwor bindingss_.quant_bind bindingss_.quantified bindingss_.conditional bindingss_.level grammars_.no_level grammars_.no_element grammars_.encoding grammars_.version grammars_.strip grammars_.setter grammars_.initial grammars_.var_decl grammars_.param grammars_.params grammars_.body grammars_.fun_decl grammars_.declaration grammars_.declarations grammars_.prolog grammars_.query bytes_.ends bytes_.char_ends bytes_.skip_from bytes_.found values_.reference values_.string_from values_.value_from tokens_.token pieces_.piece pieces_.is_xml chars_.is_char chars_.is_name_start chars_.is_name_char single_reads element_reads many_from
 comments_and_instructions = (refl, refl, refl, refl, refl, refl, refl, refl, refl)
 
 prologs :
@@ -351,7 +351,7 @@ prologs :
     × (accepted (codes "declare function f() {1}; 1") ≡ true)
     × (accepted (codes "declare function f($x, $y as item()) as item() {1}; 1") ≡ true)
     × (reading (codes "declare function f() external; 1") ≡ Err (cut left_out 21))
-unfolding terminalss_.expr terminalss_.block typess_.plain_test typess_.target typess_.instruction_test typess_.last_argument typess_.named_argument typess_.element_test typess_.attribute_test typess_.kind_test typess_.any_item typess_.item_type typess_.occurs typess_.empty_type typess_.seq_type typess_.typ directs_.value_part directs_.double_quoted directs_.single_quoted directs_.value directs_.equals directs_.attribute directs_.attributes directs_.comment directs_.instruction directs_.direct_here directs_.direct directs_.content_part directs_.end_tag directs_.content directs_.elem primariess_.integer primariess_.literal primariess_.var primariess_.inside primariess_.paren primariess_.dot primariess_.arguments primariess_.call primariess_.build_name primariess_.target_name primariess_.build_content primariess_.named_builder primariess_.instruction_builder primariess_.block_builder primariess_.builder primariess_.primary pathss_.predicate pathss_.test pathss_.axis_step pathss_.at_step pathss_.any_step pathss_.named_step pathss_.up_step pathss_.step_kind pathss_.step pathss_.two pathss_.slashes pathss_.root pathss_.deep_root pathss_.path operatorss_.one_sign operatorss_.unary operatorss_.single_type operatorss_.cast_type operatorss_.cast operatorss_.castable_type operatorss_.castable operatorss_.treat_type operatorss_.treat operatorss_.instance_type operatorss_.instance operatorss_.intersect operatorss_.union operatorss_.times operatorss_.multiplied operatorss_.added operatorss_.range_end operatorss_.range operatorss_.compared_to operatorss_.comparison operatorss_.conjunction operatorss_.disjunction bindingss_.variable bindingss_.position bindingss_.for_bind bindingss_.let_bind bindingss_.for_clause bindingss_.let_clause bindingss_.clause bindingss_.clauses bindingss_.condition bindingss_.descending bindingss_.empty_greatest bindingss_.collation bindingss_.key bindingss_.order bindingss_.flwor bindingss_.quant_bind bindingss_.quantified bindingss_.conditional bindingss_.level grammars_.no_level grammars_.no_element grammars_.encoding grammars_.version grammars_.strip grammars_.setter grammars_.initial grammars_.var_decl grammars_.param grammars_.params grammars_.body grammars_.fun_decl grammars_.declaration grammars_.declarations grammars_.prolog grammars_.query bytes_.ends bytes_.char_ends bytes_.skip_from bytes_.found values_.reference values_.string_from values_.value_from tokens_.token pieces_.piece chars_.is_char chars_.is_name_start chars_.is_name_char single_reads element_reads many_from
+unfolding terminalss_.expr terminalss_.block typess_.plain_test typess_.target typess_.instruction_test typess_.last_argument typess_.named_argument typess_.element_test typess_.attribute_test typess_.kind_test typess_.any_item typess_.item_type typess_.occurs typess_.empty_type typess_.seq_type typess_.typ directs_.value_part directs_.double_quoted directs_.single_quoted directs_.value directs_.equals directs_.attribute directs_.attributes directs_.comment directs_.instruction directs_.direct_here directs_.direct directs_.content_part directs_.end_tag directs_.content directs_.elem primariess_.integer primariess_.literal primariess_.var primariess_.inside primariess_.paren primariess_.dot primariess_.arguments primariess_.call primariess_.build_name primariess_.target_name primariess_.build_content primariess_.named_builder primariess_.instruction_builder primariess_.block_builder primariess_.builder primariess_.primary pathss_.predicate pathss_.test pathss_.axis_step pathss_.at_step pathss_.any_step pathss_.named_step pathss_.up_step pathss_.step_kind pathss_.step pathss_.two pathss_.slashes pathss_.root pathss_.deep_root pathss_.path operatorss_.one_sign operatorss_.unary operatorss_.single_type operatorss_.cast_type operatorss_.cast operatorss_.castable_type operatorss_.castable operatorss_.treat_type operatorss_.treat operatorss_.instance_type operatorss_.instance operatorss_.intersect operatorss_.union operatorss_.times operatorss_.multiplied operatorss_.added operatorss_.range_end operatorss_.range operatorss_.compared_to operatorss_.comparison operatorss_.conjunction operatorss_.disjunction bindingss_.variable bindingss_.position bindingss_.for_bind bindingss_.let_bind bindingss_.for_clause bindingss_.let_clause bindingss_.clause bindingss_.clauses bindingss_.condition bindingss_.descending bindingss_.empty_greatest bindingss_.collation bindingss_.key bindingss_.order bindingss_.flwor bindingss_.quant_bind bindingss_.quantified bindingss_.conditional bindingss_.level grammars_.no_level grammars_.no_element grammars_.encoding grammars_.version grammars_.strip grammars_.setter grammars_.initial grammars_.var_decl grammars_.param grammars_.params grammars_.body grammars_.fun_decl grammars_.declaration grammars_.declarations grammars_.prolog grammars_.query bytes_.ends bytes_.char_ends bytes_.skip_from bytes_.found values_.reference values_.string_from values_.value_from tokens_.token pieces_.piece pieces_.is_xml chars_.is_char chars_.is_name_start chars_.is_name_char single_reads element_reads many_from
 prologs = (refl, refl, refl, refl, refl, refl, refl, refl)
 
 declarations_left_out :
@@ -364,14 +364,14 @@ declarations_left_out :
     × (accepted (codes "declare variable $x := 1; module") ≡ true)
     × (reading (codes "declare variable $x := 1; import") ≡ Err (cut left_out 26))
     × (reading (codes "declare variable $x := 1; declare boundary-space strip; 1") ≡ Err syntax_fault)
-unfolding terminalss_.expr terminalss_.block typess_.plain_test typess_.target typess_.instruction_test typess_.last_argument typess_.named_argument typess_.element_test typess_.attribute_test typess_.kind_test typess_.any_item typess_.item_type typess_.occurs typess_.empty_type typess_.seq_type typess_.typ directs_.value_part directs_.double_quoted directs_.single_quoted directs_.value directs_.equals directs_.attribute directs_.attributes directs_.comment directs_.instruction directs_.direct_here directs_.direct directs_.content_part directs_.end_tag directs_.content directs_.elem primariess_.integer primariess_.literal primariess_.var primariess_.inside primariess_.paren primariess_.dot primariess_.arguments primariess_.call primariess_.build_name primariess_.target_name primariess_.build_content primariess_.named_builder primariess_.instruction_builder primariess_.block_builder primariess_.builder primariess_.primary pathss_.predicate pathss_.test pathss_.axis_step pathss_.at_step pathss_.any_step pathss_.named_step pathss_.up_step pathss_.step_kind pathss_.step pathss_.two pathss_.slashes pathss_.root pathss_.deep_root pathss_.path operatorss_.one_sign operatorss_.unary operatorss_.single_type operatorss_.cast_type operatorss_.cast operatorss_.castable_type operatorss_.castable operatorss_.treat_type operatorss_.treat operatorss_.instance_type operatorss_.instance operatorss_.intersect operatorss_.union operatorss_.times operatorss_.multiplied operatorss_.added operatorss_.range_end operatorss_.range operatorss_.compared_to operatorss_.comparison operatorss_.conjunction operatorss_.disjunction bindingss_.variable bindingss_.position bindingss_.for_bind bindingss_.let_bind bindingss_.for_clause bindingss_.let_clause bindingss_.clause bindingss_.clauses bindingss_.condition bindingss_.descending bindingss_.empty_greatest bindingss_.collation bindingss_.key bindingss_.order bindingss_.flwor bindingss_.quant_bind bindingss_.quantified bindingss_.conditional bindingss_.level grammars_.no_level grammars_.no_element grammars_.encoding grammars_.version grammars_.strip grammars_.setter grammars_.initial grammars_.var_decl grammars_.param grammars_.params grammars_.body grammars_.fun_decl grammars_.declaration grammars_.declarations grammars_.prolog grammars_.query bytes_.ends bytes_.char_ends bytes_.skip_from bytes_.found values_.reference values_.string_from values_.value_from tokens_.token pieces_.piece chars_.is_char chars_.is_name_start chars_.is_name_char single_reads element_reads many_from
+unfolding terminalss_.expr terminalss_.block typess_.plain_test typess_.target typess_.instruction_test typess_.last_argument typess_.named_argument typess_.element_test typess_.attribute_test typess_.kind_test typess_.any_item typess_.item_type typess_.occurs typess_.empty_type typess_.seq_type typess_.typ directs_.value_part directs_.double_quoted directs_.single_quoted directs_.value directs_.equals directs_.attribute directs_.attributes directs_.comment directs_.instruction directs_.direct_here directs_.direct directs_.content_part directs_.end_tag directs_.content directs_.elem primariess_.integer primariess_.literal primariess_.var primariess_.inside primariess_.paren primariess_.dot primariess_.arguments primariess_.call primariess_.build_name primariess_.target_name primariess_.build_content primariess_.named_builder primariess_.instruction_builder primariess_.block_builder primariess_.builder primariess_.primary pathss_.predicate pathss_.test pathss_.axis_step pathss_.at_step pathss_.any_step pathss_.named_step pathss_.up_step pathss_.step_kind pathss_.step pathss_.two pathss_.slashes pathss_.root pathss_.deep_root pathss_.path operatorss_.one_sign operatorss_.unary operatorss_.single_type operatorss_.cast_type operatorss_.cast operatorss_.castable_type operatorss_.castable operatorss_.treat_type operatorss_.treat operatorss_.instance_type operatorss_.instance operatorss_.intersect operatorss_.union operatorss_.times operatorss_.multiplied operatorss_.added operatorss_.range_end operatorss_.range operatorss_.compared_to operatorss_.comparison operatorss_.conjunction operatorss_.disjunction bindingss_.variable bindingss_.position bindingss_.for_bind bindingss_.let_bind bindingss_.for_clause bindingss_.let_clause bindingss_.clause bindingss_.clauses bindingss_.condition bindingss_.descending bindingss_.empty_greatest bindingss_.collation bindingss_.key bindingss_.order bindingss_.flwor bindingss_.quant_bind bindingss_.quantified bindingss_.conditional bindingss_.level grammars_.no_level grammars_.no_element grammars_.encoding grammars_.version grammars_.strip grammars_.setter grammars_.initial grammars_.var_decl grammars_.param grammars_.params grammars_.body grammars_.fun_decl grammars_.declaration grammars_.declarations grammars_.prolog grammars_.query bytes_.ends bytes_.char_ends bytes_.skip_from bytes_.found values_.reference values_.string_from values_.value_from tokens_.token pieces_.piece pieces_.is_xml chars_.is_char chars_.is_name_start chars_.is_name_char single_reads element_reads many_from
 declarations_left_out = (refl, refl, refl, refl, refl, refl, refl, refl, refl)
 
 versions :
     (accepted (codes "xquery") ≡ true)
     × (accepted (codes "xquery/version") ≡ true)
     × (reading (codes "xquery version 1") ≡ Err syntax_fault)
-unfolding terminalss_.expr terminalss_.block typess_.plain_test typess_.target typess_.instruction_test typess_.last_argument typess_.named_argument typess_.element_test typess_.attribute_test typess_.kind_test typess_.any_item typess_.item_type typess_.occurs typess_.empty_type typess_.seq_type typess_.typ directs_.value_part directs_.double_quoted directs_.single_quoted directs_.value directs_.equals directs_.attribute directs_.attributes directs_.comment directs_.instruction directs_.direct_here directs_.direct directs_.content_part directs_.end_tag directs_.content directs_.elem primariess_.integer primariess_.literal primariess_.var primariess_.inside primariess_.paren primariess_.dot primariess_.arguments primariess_.call primariess_.build_name primariess_.target_name primariess_.build_content primariess_.named_builder primariess_.instruction_builder primariess_.block_builder primariess_.builder primariess_.primary pathss_.predicate pathss_.test pathss_.axis_step pathss_.at_step pathss_.any_step pathss_.named_step pathss_.up_step pathss_.step_kind pathss_.step pathss_.two pathss_.slashes pathss_.root pathss_.deep_root pathss_.path operatorss_.one_sign operatorss_.unary operatorss_.single_type operatorss_.cast_type operatorss_.cast operatorss_.castable_type operatorss_.castable operatorss_.treat_type operatorss_.treat operatorss_.instance_type operatorss_.instance operatorss_.intersect operatorss_.union operatorss_.times operatorss_.multiplied operatorss_.added operatorss_.range_end operatorss_.range operatorss_.compared_to operatorss_.comparison operatorss_.conjunction operatorss_.disjunction bindingss_.variable bindingss_.position bindingss_.for_bind bindingss_.let_bind bindingss_.for_clause bindingss_.let_clause bindingss_.clause bindingss_.clauses bindingss_.condition bindingss_.descending bindingss_.empty_greatest bindingss_.collation bindingss_.key bindingss_.order bindingss_.flwor bindingss_.quant_bind bindingss_.quantified bindingss_.conditional bindingss_.level grammars_.no_level grammars_.no_element grammars_.encoding grammars_.version grammars_.strip grammars_.setter grammars_.initial grammars_.var_decl grammars_.param grammars_.params grammars_.body grammars_.fun_decl grammars_.declaration grammars_.declarations grammars_.prolog grammars_.query bytes_.ends bytes_.char_ends bytes_.skip_from bytes_.found values_.reference values_.string_from values_.value_from tokens_.token pieces_.piece chars_.is_char chars_.is_name_start chars_.is_name_char single_reads element_reads many_from
+unfolding terminalss_.expr terminalss_.block typess_.plain_test typess_.target typess_.instruction_test typess_.last_argument typess_.named_argument typess_.element_test typess_.attribute_test typess_.kind_test typess_.any_item typess_.item_type typess_.occurs typess_.empty_type typess_.seq_type typess_.typ directs_.value_part directs_.double_quoted directs_.single_quoted directs_.value directs_.equals directs_.attribute directs_.attributes directs_.comment directs_.instruction directs_.direct_here directs_.direct directs_.content_part directs_.end_tag directs_.content directs_.elem primariess_.integer primariess_.literal primariess_.var primariess_.inside primariess_.paren primariess_.dot primariess_.arguments primariess_.call primariess_.build_name primariess_.target_name primariess_.build_content primariess_.named_builder primariess_.instruction_builder primariess_.block_builder primariess_.builder primariess_.primary pathss_.predicate pathss_.test pathss_.axis_step pathss_.at_step pathss_.any_step pathss_.named_step pathss_.up_step pathss_.step_kind pathss_.step pathss_.two pathss_.slashes pathss_.root pathss_.deep_root pathss_.path operatorss_.one_sign operatorss_.unary operatorss_.single_type operatorss_.cast_type operatorss_.cast operatorss_.castable_type operatorss_.castable operatorss_.treat_type operatorss_.treat operatorss_.instance_type operatorss_.instance operatorss_.intersect operatorss_.union operatorss_.times operatorss_.multiplied operatorss_.added operatorss_.range_end operatorss_.range operatorss_.compared_to operatorss_.comparison operatorss_.conjunction operatorss_.disjunction bindingss_.variable bindingss_.position bindingss_.for_bind bindingss_.let_bind bindingss_.for_clause bindingss_.let_clause bindingss_.clause bindingss_.clauses bindingss_.condition bindingss_.descending bindingss_.empty_greatest bindingss_.collation bindingss_.key bindingss_.order bindingss_.flwor bindingss_.quant_bind bindingss_.quantified bindingss_.conditional bindingss_.level grammars_.no_level grammars_.no_element grammars_.encoding grammars_.version grammars_.strip grammars_.setter grammars_.initial grammars_.var_decl grammars_.param grammars_.params grammars_.body grammars_.fun_decl grammars_.declaration grammars_.declarations grammars_.prolog grammars_.query bytes_.ends bytes_.char_ends bytes_.skip_from bytes_.found values_.reference values_.string_from values_.value_from tokens_.token pieces_.piece pieces_.is_xml chars_.is_char chars_.is_name_start chars_.is_name_char single_reads element_reads many_from
 versions = (refl, refl, refl)
 
 ends :
@@ -384,6 +384,6 @@ ends :
     × (reading (codes "1)") ≡ Err syntax_fault)
     × (accepted (codes ".") ≡ true)
     × (reading (codes "1;") ≡ Err syntax_fault)
-unfolding terminalss_.expr terminalss_.block typess_.plain_test typess_.target typess_.instruction_test typess_.last_argument typess_.named_argument typess_.element_test typess_.attribute_test typess_.kind_test typess_.any_item typess_.item_type typess_.occurs typess_.empty_type typess_.seq_type typess_.typ directs_.value_part directs_.double_quoted directs_.single_quoted directs_.value directs_.equals directs_.attribute directs_.attributes directs_.comment directs_.instruction directs_.direct_here directs_.direct directs_.content_part directs_.end_tag directs_.content directs_.elem primariess_.integer primariess_.literal primariess_.var primariess_.inside primariess_.paren primariess_.dot primariess_.arguments primariess_.call primariess_.build_name primariess_.target_name primariess_.build_content primariess_.named_builder primariess_.instruction_builder primariess_.block_builder primariess_.builder primariess_.primary pathss_.predicate pathss_.test pathss_.axis_step pathss_.at_step pathss_.any_step pathss_.named_step pathss_.up_step pathss_.step_kind pathss_.step pathss_.two pathss_.slashes pathss_.root pathss_.deep_root pathss_.path operatorss_.one_sign operatorss_.unary operatorss_.single_type operatorss_.cast_type operatorss_.cast operatorss_.castable_type operatorss_.castable operatorss_.treat_type operatorss_.treat operatorss_.instance_type operatorss_.instance operatorss_.intersect operatorss_.union operatorss_.times operatorss_.multiplied operatorss_.added operatorss_.range_end operatorss_.range operatorss_.compared_to operatorss_.comparison operatorss_.conjunction operatorss_.disjunction bindingss_.variable bindingss_.position bindingss_.for_bind bindingss_.let_bind bindingss_.for_clause bindingss_.let_clause bindingss_.clause bindingss_.clauses bindingss_.condition bindingss_.descending bindingss_.empty_greatest bindingss_.collation bindingss_.key bindingss_.order bindingss_.flwor bindingss_.quant_bind bindingss_.quantified bindingss_.conditional bindingss_.level grammars_.no_level grammars_.no_element grammars_.encoding grammars_.version grammars_.strip grammars_.setter grammars_.initial grammars_.var_decl grammars_.param grammars_.params grammars_.body grammars_.fun_decl grammars_.declaration grammars_.declarations grammars_.prolog grammars_.query bytes_.ends bytes_.char_ends bytes_.skip_from bytes_.found values_.reference values_.string_from values_.value_from tokens_.token pieces_.piece chars_.is_char chars_.is_name_start chars_.is_name_char single_reads element_reads many_from
+unfolding terminalss_.expr terminalss_.block typess_.plain_test typess_.target typess_.instruction_test typess_.last_argument typess_.named_argument typess_.element_test typess_.attribute_test typess_.kind_test typess_.any_item typess_.item_type typess_.occurs typess_.empty_type typess_.seq_type typess_.typ directs_.value_part directs_.double_quoted directs_.single_quoted directs_.value directs_.equals directs_.attribute directs_.attributes directs_.comment directs_.instruction directs_.direct_here directs_.direct directs_.content_part directs_.end_tag directs_.content directs_.elem primariess_.integer primariess_.literal primariess_.var primariess_.inside primariess_.paren primariess_.dot primariess_.arguments primariess_.call primariess_.build_name primariess_.target_name primariess_.build_content primariess_.named_builder primariess_.instruction_builder primariess_.block_builder primariess_.builder primariess_.primary pathss_.predicate pathss_.test pathss_.axis_step pathss_.at_step pathss_.any_step pathss_.named_step pathss_.up_step pathss_.step_kind pathss_.step pathss_.two pathss_.slashes pathss_.root pathss_.deep_root pathss_.path operatorss_.one_sign operatorss_.unary operatorss_.single_type operatorss_.cast_type operatorss_.cast operatorss_.castable_type operatorss_.castable operatorss_.treat_type operatorss_.treat operatorss_.instance_type operatorss_.instance operatorss_.intersect operatorss_.union operatorss_.times operatorss_.multiplied operatorss_.added operatorss_.range_end operatorss_.range operatorss_.compared_to operatorss_.comparison operatorss_.conjunction operatorss_.disjunction bindingss_.variable bindingss_.position bindingss_.for_bind bindingss_.let_bind bindingss_.for_clause bindingss_.let_clause bindingss_.clause bindingss_.clauses bindingss_.condition bindingss_.descending bindingss_.empty_greatest bindingss_.collation bindingss_.key bindingss_.order bindingss_.flwor bindingss_.quant_bind bindingss_.quantified bindingss_.conditional bindingss_.level grammars_.no_level grammars_.no_element grammars_.encoding grammars_.version grammars_.strip grammars_.setter grammars_.initial grammars_.var_decl grammars_.param grammars_.params grammars_.body grammars_.fun_decl grammars_.declaration grammars_.declarations grammars_.prolog grammars_.query bytes_.ends bytes_.char_ends bytes_.skip_from bytes_.found values_.reference values_.string_from values_.value_from tokens_.token pieces_.piece pieces_.is_xml chars_.is_char chars_.is_name_start chars_.is_name_char single_reads element_reads many_from
 ends = (refl, refl, refl, refl, refl, refl, refl, refl, refl)
 
