@@ -42,6 +42,7 @@ comment_ge text at = step (find (codes "--") text (at + 4)) (found_ge (codes "--
     closed : (b : Bool) (e : ℕ) → at + 4 < e + 1 → at < place_or at (cond b (Some (e + 3)) None)
     closed true e h = omega (arith, h)
     closed false e h = omega arith
+
     step : (o : Option ℕ) → at + 4 < place_or (at + 4) (option_map (λ e. e + 1) o) → at < place_or at (from_option o None (λ e. cond (byte text (e + 2) == 62) (Some (e + 3)) None))
     step None h = omega arith
     step (Some e) h = closed (byte text (e + 2) == 62) e h
@@ -64,8 +65,10 @@ instruction_ge text at =
   where
     e : at + 2 ≤ target_end text at
     e = char_ends_ge is_name_char text (length text - (at + 2)) (at + 2)
+
     w : target_end text at ≤ run_end is_white text (target_end text at)
     w = ends_ge is_white text (length text - target_end text at) (target_end text at)
+
     step : (b c d : Bool) (f : ℕ) (o : Option ℕ) → at + 2 ≤ f → at < place_or at o → at < place_or at (cond b None (cond c (Some (f + 2)) (cond d o None)))
     step true c d f o h g = omega arith
     step false true d f o h g = omega (arith, h)

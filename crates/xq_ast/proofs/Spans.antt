@@ -50,6 +50,7 @@ skip_ge text (suc n) lo s h g = at (skip_ge text n lo) (skip_step text s) (step_
   where
     done : lo ≤ skip_done s
     done = grind (arith, common_steps)
+
     at : ((r : Skip) → lo ≤ r.at → lo ≤ r.back → lo ≤ skip_from text n r) → (o : Option Skip) → lo ≤ place_of s o → lo ≤ back_of s o → lo ≤ from_option o (skip_done s) (skip_from text n)
     at next None a b = done
     at next (Some r) a b = next r a b
@@ -195,9 +196,11 @@ string_ge quote text (suc n) at = step (λ e. string_ge quote text n e) (string_
     further : (e : ℕ) (o : Option ℕ) → at < e → e < place_or e o → at < place_or at o
     further e None a b = omega arith
     further e (Some f) a b = omega (arith, a, b)
+
     done : (b : Bool) (e : ℕ) → ((p : ℕ) → p < place_or p (string_from quote text n p)) → at < e → at < place_or at (cond b (Some e) (string_from quote text n e))
     done true e next h = h
     done false e next h = further e (string_from quote text n e) h (next e)
+
     step : ((e : ℕ) → e < place_or e (string_from quote text n e)) → (o : Option (Bool × ℕ)) → at < step_or at o → at < place_or at (string_next (string_from quote text n) o)
     step next None h = omega arith
     step next (Some s) h = done s.0 s.1 next h
@@ -225,6 +228,7 @@ token_here_within text lo at mode l =
     within : (o : Option Token) → at < length text → at < end_or at o → Within text lo o
     within None i h = tt
     within (Some t) i h = record { some = omega (arith, l, h); inside = omega (arith, l, i) }
+
     step : (b : Bool) → nat_le (length text) at ≡ b → (c d e f : Bool) (n : Token) (i q : Option Token) (s : Token) (r : Option Token)
         → at < n.end → at < end_or at i → at < end_or at q → at < s.end → at < end_or at r
         → Within text lo (cond b None (cond c (Some n) (cond d i (cond e q (cond f (Some s) r)))))

@@ -34,12 +34,19 @@ pub struct AsRead {
 
 impl Phase for AsRead {
     type Text = Items<u8>;
+
     type Var = Name<Items<u8>>;
+
     type Fun = Name<Items<u8>>;
+
     type Type = ReadType;
+
     type Kind = Name<Items<u8>>;
+
     type Number = Items<u8>;
+
     type Run = ContentRun;
+
     type ValueRun = ValueRun;
 }
 
@@ -51,12 +58,19 @@ pub struct AsResolved {
 
 impl Phase for AsResolved {
     type Text = TextId;
+
     type Var = u32;
+
     type Fun = Callee;
+
     type Type = SeqType;
+
     type Kind = AtomKind;
+
     type Number = i64;
+
     type Run = TextRun;
+
     type ValueRun = TextId;
 }
 
@@ -75,12 +89,7 @@ pub enum Node<P: Phase> {
         Boxed<Node<P>>,
     ),
     /// XQuery 1.0, section 3.11.
-    Quantified(
-        u64,
-        Quantifier,
-        Items<QuantBind<P::Var, P::Type, Node<P>>>,
-        Boxed<Node<P>>,
-    ),
+    Quantified(u64, Quantifier, Items<QuantBind<P::Var, P::Type, Node<P>>>, Boxed<Node<P>>),
     /// `if`, `then`, `else` (XQuery 1.0, section 3.10).
     If(u64, Boxed<Node<P>>, Boxed<Node<P>>, Boxed<Node<P>>),
     /// A level of operators: an operand, and one or more behind operators; it nests to the left
@@ -99,11 +108,7 @@ pub enum Node<P: Phase> {
     /// `/` alone (XQuery 1.0, section 3.2).
     Root(u64),
     /// The steps of a path; its offset is that of the last (XQuery 1.0, section 3.2).
-    Path(
-        Start,
-        Step<P::Text, Node<P>>,
-        Items<Behind<P::Text, Node<P>>>,
-    ),
+    Path(Start, Step<P::Text, Node<P>>, Items<Behind<P::Text, Node<P>>>),
     /// XQuery 1.0, section 3.1.1.
     Integer(u64, P::Number),
     /// XQuery 1.0, section 3.1.1.
@@ -117,12 +122,7 @@ pub enum Node<P: Phase> {
     /// XQuery 1.0, section 3.1.5.
     Call(u64, P::Fun, Items<Node<P>>),
     /// A constructor with a word, its name and its content (XQuery 1.0, section 3.7.3).
-    Build(
-        u64,
-        BuildKind,
-        BuildName<P::Text, Node<P>>,
-        Option<Boxed<Node<P>>>,
-    ),
+    Build(u64, BuildKind, BuildName<P::Text, Node<P>>, Option<Boxed<Node<P>>>),
     /// A direct element: name, attributes, content (XQuery 1.0, section 3.7.1).
     Element(
         u64,

@@ -386,4 +386,3 @@ ends :
     × (reading (codes "1;") ≡ Err syntax_fault)
 unfolding terminalss_.expr terminalss_.block typess_.plain_test typess_.target typess_.instruction_test typess_.last_argument typess_.named_argument typess_.element_test typess_.attribute_test typess_.kind_test typess_.any_item typess_.item_type typess_.occurs typess_.empty_type typess_.seq_type typess_.typ directs_.value_part directs_.double_quoted directs_.single_quoted directs_.value directs_.equals directs_.attribute directs_.attributes directs_.comment directs_.instruction directs_.direct_here directs_.direct directs_.content_part directs_.end_tag directs_.content directs_.elem primariess_.integer primariess_.literal primariess_.var primariess_.inside primariess_.paren primariess_.dot primariess_.arguments primariess_.call primariess_.build_name primariess_.target_name primariess_.build_content primariess_.named_builder primariess_.instruction_builder primariess_.block_builder primariess_.builder primariess_.primary pathss_.predicate pathss_.test pathss_.axis_step pathss_.at_step pathss_.any_step pathss_.named_step pathss_.up_step pathss_.step_kind pathss_.step pathss_.two pathss_.slashes pathss_.root pathss_.deep_root pathss_.path operatorss_.one_sign operatorss_.unary operatorss_.single_type operatorss_.cast_type operatorss_.cast operatorss_.castable_type operatorss_.castable operatorss_.treat_type operatorss_.treat operatorss_.instance_type operatorss_.instance operatorss_.intersect operatorss_.union operatorss_.times operatorss_.multiplied operatorss_.added operatorss_.range_end operatorss_.range operatorss_.compared_to operatorss_.comparison operatorss_.conjunction operatorss_.disjunction bindingss_.variable bindingss_.position bindingss_.for_bind bindingss_.let_bind bindingss_.for_clause bindingss_.let_clause bindingss_.clause bindingss_.clauses bindingss_.condition bindingss_.descending bindingss_.empty_greatest bindingss_.collation bindingss_.key bindingss_.order bindingss_.flwor bindingss_.quant_bind bindingss_.quantified bindingss_.conditional bindingss_.level grammars_.no_level grammars_.no_element grammars_.encoding grammars_.version grammars_.strip grammars_.setter grammars_.initial grammars_.var_decl grammars_.param grammars_.params grammars_.body grammars_.fun_decl grammars_.declaration grammars_.declarations grammars_.prolog grammars_.query bytes_.ends bytes_.char_ends bytes_.skip_from bytes_.found values_.reference values_.string_from values_.value_from tokens_.token pieces_.piece pieces_.is_xml chars_.is_char chars_.is_name_start chars_.is_name_char single_reads element_reads many_from
 ends = (refl, refl, refl, refl, refl, refl, refl, refl, refl)
-
