@@ -1,5 +1,5 @@
 -- The types of calls (own rule).
-use Rattle.std.specs.Prelude.{◌+◌, List, [], ◌∷◌}
+use Rattle.std.specs.Prelude.{◌+◌, List, [], ◌∷◌, Option, Some, None}
 use Rattle.xq_base.specs.declared.fun.AtomKind.TheVariants as a
 use Rattle.xq_base.specs.declared.fun.AtomKind.{AtomKind}
 use Rattle.xq_base.specs.declared.fun.Fun.{Fun}
@@ -11,22 +11,40 @@ use Rattle.xq_types.specs.Types.{Typ, lesser_number, greater_number, empty_type,
 abbrev pub Types : Type 0
 Types = List Typ
 
+-- one, two, three arguments
+abbrev pub only_one : Types → Option Typ
+only_one (t ∷ []) = Some t
+only_one _ = None
+
+abbrev pub only_two : Types → Option (Typ × Typ)
+only_two (t ∷ u ∷ []) = Some (t, u)
+only_two _ = None
+
+abbrev pub only_three : Types → Option (Typ × Typ × Typ)
+only_three (t ∷ u ∷ w ∷ []) = Some (t, u, w)
+only_three _ = None
+
+abbrev pub first_one : Types → Option Typ
+first_one [] = None
+first_one (t ∷ ts) = Some t
+
+module _ {A : Type 0} where
+  abbrev pub type_if : (A → Typ) → Option A → Typ
+  type_if g None = empty_type
+  type_if g (Some a) = g a
+
 abbrev pub type_one : (Typ → Typ) → Types → Typ
-type_one g (t ∷ []) = g t
-type_one g _ = empty_type
+type_one g ts = type_if g (only_one ts)
 
 abbrev pub type_two : (Typ → Typ → Typ) → Types → Typ
-type_two g (t ∷ u ∷ []) = g t u
-type_two g _ = empty_type
+type_two g ts = type_if (λ p. g p.0 p.1) (only_two ts)
 
 abbrev pub type_three : (Typ → Typ → Typ → Typ) → Types → Typ
-type_three g (t ∷ u ∷ w ∷ []) = g t u w
-type_three g _ = empty_type
+type_three g ts = type_if (λ p. g p.0 p.1 p.2) (only_three ts)
 
 -- by the first argument
 abbrev pub type_first : (Typ → Typ) → Types → Typ
-type_first g [] = empty_type
-type_first g (t ∷ ts) = g t
+type_first g ts = type_if g (first_one ts)
 
 abbrev pub whole_type : Typ
 whole_type = once_of (k.Atom a.Integer)
@@ -62,9 +80,12 @@ node_set_type t u = made (either_kinds t.kinds u.kinds) 0 2
 abbrev pub inserted_type : Typ → Typ → Typ → Typ
 inserted_type t p u = made (either_kinds t.kinds u.kinds) (greater_number t.least u.least) (t.most + u.most)
 
+abbrev pub sum_with : Option (Typ × Typ) → Typ
+sum_with None = whole_type
+sum_with (Some p) = made (either_kinds (only (k.Atom a.Integer)) (atomised_kinds p.1.kinds)) p.1.least 1
+
 abbrev pub sum_type : Types → Typ
-sum_type (t ∷ u ∷ []) = made (either_kinds (only (k.Atom a.Integer)) (atomised_kinds u.kinds)) u.least 1
-sum_type _ = whole_type
+sum_type ts = sum_with (only_two ts)
 
 abbrev pub cast_type : AtomKind → Typ → Typ
 cast_type kind t = made (only (k.Atom kind)) t.least 1
