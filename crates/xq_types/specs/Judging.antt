@@ -1,6 +1,6 @@
 -- The type of a Core, or the place of the first of its nodes that is refused, in the order in which the nodes are numbered
 -- (own rule). It is what `type_of` and `type_refusal` say of the Core's expression.
-use Rattle.std.specs.Prelude.{ℕ, ◌≡◌, Bool, cond, List, [], ◌∷◌, ◌++◌, Result, Ok, Err}
+use Rattle.std.specs.Prelude.{ℕ, ◌≡◌, Bool, cond, List, [], ◌∷◌, Result, Ok, Err}
 use Rattle.xq_base.specs.declared.fun.ItemKind.TheVariants as k
 use Rattle.doc_table.specs.Values.{kind_of_item, item_of_atom}
 use Rattle.core_meaning.specs.PlainCore as c
@@ -36,12 +36,12 @@ abbrev mutual
   judged types (c.Let o x a b) = and_then (judged types a) (λ t. judged (with_type types x t) b)
   judged types (c.For o x p a b) = and_then (judged types a) (λ t. and_then (judged (loop_types x p t types) b) (λ u. Ok (each_type t u)))
   judged types (c.Sorted o bs ks b) =
-      and_then (judged_binds types bs) (λ p. and_then (judged_keys p.0 ks) (λ _. and_then (judged p.0 b) (λ t. Ok (p.1 t))))
+      and_then (judged_binds types bs) (λ p. and_then (and_then (judged_keys p.0 ks) (λ _. judged p.0 b)) (λ t. Ok (p.1 t)))
   judged types (c.If o a b d) = and_then (judged types a) (λ _. and_then (judged types b) (λ t. and_then (judged types d) (λ u. Ok (either_type t u))))
   judged types (c.Call o f as') = and_then (judged_all types as') (λ ts. judge_call (marks_refuse (marks_of f) ts) o (fun_type f ts))
   judged types (c.Step o from axis test a) = and_then (judged types a) (λ t. Ok (step_type axis test t))
   judged types (c.Build o kind name a) =
-      and_then (judged_all types name) (λ ts. and_then (judged types a) (λ t. Ok (build_type kind (ts ++ t ∷ []))))
+      and_then (judged_content types name (judged types a)) (λ ts. Ok (build_type kind ts))
   judged types (c.Instance o a test) = and_then (judged types a) (λ _. Ok bool_type)
   judged types (c.Treat o a test) = and_then (judged types a) (λ t. Ok (treat_type t (type_of_test test)))
   judged types (c.Convert o a test) = and_then (judged types a) (λ t. Ok (convert_type test t))
@@ -52,6 +52,11 @@ abbrev mutual
   pub judged_all : TypeEnv → PlainCores → Result Types ℕ
   judged_all types c.no_cores = Ok []
   judged_all types (c.one_core a as') = and_then (judged types a) (λ t. and_then (judged_all types as') (λ ts. Ok (t ∷ ts)))
+
+  -- the types of a constructor's name and of its content behind it
+  pub judged_content : TypeEnv → PlainCores → Judged → Result Types ℕ
+  judged_content types c.no_cores last = and_then last (λ t. Ok (t ∷ []))
+  judged_content types (c.one_core a as') last = and_then (judged types a) (λ t. and_then (judged_content types as' last) (λ ts. Ok (t ∷ ts)))
 
   pub judged_bind : TypeEnv → PlainBind → Result Bound ℕ
   judged_bind types (c.for_bind x p a) = and_then (judged types a) (λ t. Ok (loop_types x p t types, each_type t))
