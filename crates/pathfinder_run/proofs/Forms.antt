@@ -10,8 +10,8 @@ use Rattle.query_engine.specs.declared.tree.Single.{Single}
 use Rattle.query_engine.specs.declared.tree.Single.TheVariants as single_
 use Rattle.query_engine.specs.declared.tree.Bind.{Bind, roll-Bind}
 use Rattle.query_engine.specs.declared.tree.Sum.{Sum, roll-Sum}
-use Rattle.core_meaning.specs.Items.{Int}
-use Rattle.core_meaning.specs.Expr.{Lit}
+use Rattle.xq_base.specs.Atoms.{IntAtom}
+use Rattle.core_meaning.specs.PlainCore.{Lit}
 use Rattle.query_engine.specs.Scope.{Scope, Unbound, BindPart, visible, unless_bound, all_parts, primary_part, single_part, bind_part, sum_part, in_single, in_primary, in_sum}
 use Rattle.query_engine.specs.Normal.{Norm, NormBind, reference, sequence, added, at_scope, loops, primary_norm, single_norm, bind_norm, sum_norm, norm_single, norm_primary, norm_bind, norm_sum}
 
@@ -24,13 +24,13 @@ norm_sum-roll place first more s = ap (λ (g : Norm). g s) (fold-roll-Sum Norm N
 pub norm_bind-roll : (x : Name) (e : Single) → norm_bind (roll-Bind (record { var = x; source = e })) ≡ record { var = x; source = norm_single e }
 norm_bind-roll x e = fold-roll-Bind Norm Norm NormBind Norm primary_norm single_norm bind_norm sum_norm (record { var = x; source = e })
 
-pub norm_integer : (place : ℕ) (z : ℤ) (s : Scope) → norm_primary (prim_.Integer place z) s ≡ Lit (Int z)
+pub norm_integer : (place : ℕ) (z : ℤ) (s : Scope) → norm_primary (prim_.Integer place z) s ≡ Lit place (IntAtom z)
 norm_integer place z s = ap (λ t. norm_primary t s) (sym (rolls-Integer place z)) ∙ ap (λ (g : Norm). g s) (fold-roll-Primary Norm Norm NormBind Norm primary_norm single_norm bind_norm sum_norm (o.Integer place z))
 
-pub norm_var : (x : Name) (s : Scope) → norm_primary (prim_.Var x) s ≡ reference (visible s x.text)
+pub norm_var : (x : Name) (s : Scope) → norm_primary (prim_.Var x) s ≡ reference x.offset (visible s x.text)
 norm_var x s = ap (λ t. norm_primary t s) (sym (rolls-Var x)) ∙ ap (λ (g : Norm). g s) (fold-roll-Primary Norm Norm NormBind Norm primary_norm single_norm bind_norm sum_norm (o.Var x))
 
-pub norm_paren : (place : ℕ) (es : List Single) (s : Scope) → norm_primary (prim_.Paren place es) s ≡ sequence (at_scope (map norm_single es) s)
+pub norm_paren : (place : ℕ) (es : List Single) (s : Scope) → norm_primary (prim_.Paren place es) s ≡ sequence place (at_scope (map norm_single es) s)
 norm_paren place es s = ap (λ t. norm_primary t s) (sym (rolls-Paren place es)) ∙ ap (λ (g : Norm). g s) (fold-roll-Primary Norm Norm NormBind Norm primary_norm single_norm bind_norm sum_norm (o.Paren place es))
 
 pub in_sum_form : (f : Sum) (s : Scope) → in_single (single_.Sum f) s ≡ in_sum f s

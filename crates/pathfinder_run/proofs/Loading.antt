@@ -6,18 +6,20 @@ use Rattle.std.proofs.lemmas.Bool.{eqb-true, and_parts}
 use Rattle.std.proofs.lemmas.Option.{slice_get_within, get_or_from_slice_get, slice_get-get_or}
 use Rattle.std.proofs.lemmas.List.{take_more, length-take-le, map-append, get_or-map}
 use Rattle.xq_base.specs.declared.item.TextId.{TextId}
-use Rattle.xq_base.specs.Pool.{Holds, AreDifferent}
+use Rattle.xq_base.specs.Distinct.{Holds, AllDiffer}
 use Rattle.io_edge.specs.Shelves.{Files}
 use Rattle.doc_table.specs.Tree.{Tree, Branch, OfDocument, root_of, label_with, text_in, with_texts}
 use Rattle.doc_table.specs.Given.{tree_given, trees_given}
 use Rattle.doc_table.specs.Stores.{Holdings, AreGiven, has_doc, with_doc}
 use Rattle.doc_table.proofs.GivenLaws.{trees_given_more, trees_given_doc, tree_given_more}
 use Rattle.doc_table.proofs.Finds.{given-at}
-use Rattle.doc_shred.specs.Standing.{IsLater}
-use Rattle.query_engine.specs.Documents.{Documents, documents_in}
+use Rattle.doc_table.specs.OtherTexts.{Grows}
+use Rattle.doc_table.specs.NodeRules.{Docs}
+use Rattle.doc_table.specs.Documents.{documents_in}
 use Rattle.pathfinder_run.specs.declared.status.Status.{Status}
 use Rattle.pathfinder_run.specs.declared.status.Status.TheVariants as s
-use Rattle.pathfinder_run.specs.Inputs.{document_limit, IsWithin, IsGood, IsShredded, IsDocumentFile, AreDocuments, ShredFails, DocumentFails, Loaded, IsNew, HasOneMore, IsKept}
+use Rattle.doc_shred.specs.Limits.{document_limit}
+use Rattle.pathfinder_run.specs.Inputs.{IsWithin, IsGood, IsShredded, IsDocumentFile, AreDocuments, ShredFails, DocumentFails, Loaded, IsNew, HasOneMore, IsKept}
 use Rattle.pathfinder_run.proofs.Texts.{not_shorter, same_text, same_tree}
 
 abbrev pub Texts : Type 0
@@ -51,7 +53,7 @@ shred_fails files name bytes word (s.TooLarge k) w f = absurd f
 Others : Texts → List Held → List ℕ → Type 0
 Others texts docs name = (n : ℕ) (d : Held) → slice_get docs n ≡ Some d → text_in texts d.0 ≢ name
 
-none_has : (old new : Texts) (later : IsLater old new) (name : List ℕ) (id : TextId) (docs : List Held) → slice_get new id.0 ≡ Some name → AreGiven old docs → Others old docs name → has_doc id docs ≡ false
+none_has : (old new : Texts) (later : Grows old new) (name : List ℕ) (id : TextId) (docs : List Held) → slice_get new id.0 ≡ Some name → AreGiven old docs → Others old docs name → has_doc id docs ≡ false
 unfolding Others
 none_has old new later name id [] e g o = refl
 none_has old new later name id (d ∷ docs) e g o = by (nat_eq id.0 d.0.0) refl (none_has old new later name id docs e g.1 (λ n. o (suc n)))
@@ -63,17 +65,17 @@ none_has old new later name id (d ∷ docs) e g o = by (nat_eq id.0 d.0.0) refl 
         absurd (o 0 d refl is)
     by false q rest = rw q rest
 
-pub new_number : (old new : Texts) (h : Holdings) (name : List ℕ) (id : TextId) → IsNew old h name → IsLater old new → slice_get new id.0 ≡ Some name → has_doc id h.docs ≡ false
+pub new_number : (old new : Texts) (h : Holdings) (name : List ℕ) (id : TextId) → IsNew old h name → Grows old new → slice_get new id.0 ≡ Some name → has_doc id h.docs ≡ false
 unfolding Others
 new_number old new h name id n later e = none_has old new later name id h.docs e n.0 n.1
 
-pub given_more : (old new : Texts) (docs : List Held) → IsLater old new → AreGiven old docs → AreGiven new docs
+pub given_more : (old new : Texts) (docs : List Held) → Grows old new → AreGiven old docs → AreGiven new docs
 given_more old new [] later g = tt
 given_more old new (d ∷ docs) later g = (omega (arith, g.0, not_shorter old new later), given_more old new docs later g.1)
 
 -- ---- the documents so far
 
-count_same : (files : Option Files) (names : List (List ℕ)) (docs : Documents) → AreDocuments files names docs → length docs ≡ length names
+count_same : (files : Option Files) (names : List (List ℕ)) (docs : Docs) → AreDocuments files names docs → length docs ≡ length names
 count_same files [] [] a = refl
 count_same files (n ∷ names) (d ∷ docs) a = ap suc (count_same files names docs a.2)
 count_same files [] (d ∷ docs) a = absurd a
@@ -102,7 +104,7 @@ holds_at (m ∷ names) zero name e = inl (some_same m name e)
 holds_at (m ∷ names) (suc n) name e = inr (holds_at names n name e)
 
 -- no name of the first k is the k-th
-first_other : (names : List (List ℕ)) (k n : ℕ) (name : List ℕ) → AreDifferent names → k < length names → slice_get (take k names) n ≡ Some name → get_or names k [] ≡ name → ⊥
+first_other : (names : List (List ℕ)) (k n : ℕ) (name : List ℕ) → AllDiffer names → k < length names → slice_get (take k names) n ≡ Some name → get_or names k [] ≡ name → ⊥
 first_other [] k n name a h e q = absurd (omega (arith, h))
 first_other (m ∷ names) zero n name a h e q = absurd (no e)
   where
@@ -113,7 +115,7 @@ first_other (m ∷ names) (suc k) zero name a h e q =
     a.0 (subst (Holds names) (q ∙ sym (some_same m name e)) (holds_at names k (get_or names k []) (slice_get-get_or names k [] inside)))
 first_other (m ∷ names) (suc k) (suc n) name a h e q = first_other names k n name a.1 (omega (arith, h)) e q
 
-pub loaded_new : (files : Option Files) (names : List (List ℕ)) (k : ℕ) (old new : Texts) (h : Holdings) → AreDifferent names → k < length names → Loaded files (take k names) old h → IsLater old new → IsNew new h (get_or names k [])
+pub loaded_new : (files : Option Files) (names : List (List ℕ)) (k : ℕ) (old new : Texts) (h : Holdings) → AllDiffer names → k < length names → Loaded files (take k names) old h → Grows old new → IsNew new h (get_or names k [])
 loaded_new files names k old new h a inside l later = (
   given_more old new h.docs later l.named,
   λ n d e is.
@@ -123,7 +125,7 @@ loaded_new files names k old new h a inside l later = (
 
 -- ---- one more
 
-documents_more : (files : Option Files) (names : List (List ℕ)) (docs : Documents) (name : List ℕ) (tree : Tree (List ℕ)) → AreDocuments files names docs → IsDocumentFile files name tree → AreDocuments files (names ++ name ∷ []) (docs ++ (name, tree) ∷ [])
+documents_more : (files : Option Files) (names : List (List ℕ)) (docs : Docs) (name : List ℕ) (tree : Tree (List ℕ)) → AreDocuments files names docs → IsDocumentFile files name tree → AreDocuments files (names ++ name ∷ []) (docs ++ (name, tree) ∷ [])
 documents_more files [] [] name tree a i = (refl, i, tt)
 documents_more files (n ∷ names) (d ∷ docs) name tree a i = (a.0, a.1, documents_more files names docs name tree a.2 i)
 documents_more files [] (d ∷ docs) name tree a i = absurd a
@@ -132,7 +134,7 @@ documents_more files (n ∷ names) [] name tree a i = absurd a
 all_trees : (n : ℕ) (h : Holdings) → trees_given n h ≡ true → list_all (λ (d : Held). tree_given n d.1) h.docs ≡ true
 all_trees n h e = (and_parts (list_all (λ (d : Held). tree_given n d.1) h.docs) (list_all (λ b. tree_given n b.1) h.built) e).0
 
-docs_same : (old new : Texts) (later : IsLater old new) (docs : List Held) → AreGiven old docs → list_all (λ (d : Held). tree_given (length old) d.1) docs ≡ true → map (told new) docs ≡ map (told old) docs
+docs_same : (old new : Texts) (later : Grows old new) (docs : List Held) → AreGiven old docs → list_all (λ (d : Held). tree_given (length old) d.1) docs ≡ true → map (told new) docs ≡ map (told old) docs
 docs_same old new later [] g t = refl
 docs_same old new later (d ∷ docs) g t =
     let p = and_parts (tree_given (length old) d.1) (list_all (λ (d : Held). tree_given (length old) d.1) docs) t in
@@ -142,33 +144,11 @@ given_last : (texts : Texts) (docs : List Held) (d : Held) → AreGiven texts do
 given_last texts [] d g i = (i, tt)
 given_last texts (c ∷ docs) d g i = (g.0, given_last texts docs d g.1 i)
 
-roots_last : (docs : List Held) (d : Held) → ((n : ℕ) (e : Held) → slice_get docs n ≡ Some e → root_of e.1 ≡ OfDocument) → root_of d.1 ≡ OfDocument → (n : ℕ) (e : Held) → slice_get (docs ++ d ∷ []) n ≡ Some e → root_of e.1 ≡ OfDocument
-roots_last [] d r i zero e q = ap (λ (z : Held). root_of z.1) (sym (some_same d e q)) ∙ i
-roots_last [] d r i (suc n) e q = cc
-roots_last (c ∷ docs) d r i zero e q = r 0 e q
-roots_last (c ∷ docs) d r i (suc n) e q = roots_last docs d (λ m. r (suc m)) i n e q
-
-root_back : (texts : Texts) (t : Tree TextId) → root_of (with_texts texts t) ≡ OfDocument → root_of t ≡ OfDocument
-root_back texts (Branch OfDocument f) e = refl
-root_back texts (Branch l f) e = from l e
-  where
-    from : (l : Rattle.doc_table.specs.Tree.Label TextId) → label_with (text_in texts) l ≡ OfDocument → l ≡ OfDocument
-    from OfDocument e = refl
-    from (Rattle.doc_table.specs.Tree.OfElement n as') e = cc
-    from (Rattle.doc_table.specs.Tree.OfAttribute n v) e = cc
-    from (Rattle.doc_table.specs.Tree.OfText v) e = cc
-    from (Rattle.doc_table.specs.Tree.OfComment v) e = cc
-    from (Rattle.doc_table.specs.Tree.OfInstruction n v) e = cc
-
-good_root : (bytes : List ℕ) (t : Tree (List ℕ)) → IsGood bytes t → root_of t ≡ OfDocument
-good_root bytes t g = ap root_of g.document.1
-
-pub loaded_more : (files : Option Files) (names : List (List ℕ)) (name bytes : List ℕ) (old mid new : Texts) (h g : Holdings) (tree : Tree TextId) → Loaded files names old h → IsLater old mid → IsLater mid new → IsWithin files document_limit name bytes → IsShredded bytes mid tree → HasOneMore tree name h new g → Loaded files (names ++ name ∷ []) new g
+pub loaded_more : (files : Option Files) (names : List (List ℕ)) (name bytes : List ℕ) (old mid new : Texts) (h g : Holdings) (tree : Tree TextId) → Loaded files names old h → Grows old mid → Grows mid new → IsWithin files document_limit name bytes → IsShredded bytes mid tree → HasOneMore tree name h new g → Loaded files (names ++ name ∷ []) new g
 loaded_more files names name bytes old mid new h g tree l later1 later2 read shredded more = subst (Loaded files (names ++ name ∷ []) new) (sym more.added) (record {
   documents = subst (AreDocuments files (names ++ name ∷ [])) (sym docs_are) (documents_more files names (documents_in old h) name (with_texts new tree) l.documents (record { bytes = bytes; read = read; good = subst (IsGood bytes) (sym tree_is) shredded.good }));
   trees = trees_given_doc (length new) h more.id tree (trees_given_more (length mid) (length new) (not_shorter mid new later2) h (trees_given_more (length old) (length mid) (not_shorter old mid later1) h l.trees)) (tree_given_more (length mid) (length new) (not_shorter mid new later2) tree shredded.given);
   named = given_last new h.docs (more.id, tree) (given_more mid new h.docs later2 (given_more old mid h.docs later1 l.named)) (slice_get_within new more.id.0 name more.given);
-  roots = roots_last h.docs (more.id, tree) l.roots (root_back mid tree (good_root bytes (with_texts mid tree) shredded.good));
 })
   where
     tree_is : with_texts new tree ≡ with_texts mid tree
@@ -192,7 +172,7 @@ loaded_more files names name bytes old mid new h g tree l later1 later2 read shr
 pub next_names : (names : List (List ℕ)) (k : ℕ) → k < length names → take (k + 1) names ≡ take k names ++ get_or names k [] ∷ []
 next_names names k h = take_more names k [] h
 
-pub kept_loaded : (files : Option Files) (names : List (List ℕ)) (k : ℕ) (bytes : List ℕ) (old mid new : Texts) (h g : Holdings) (tree : Tree TextId) (r : Result (Unit {0}) Status) → k < length names → Loaded files (take k names) old h → IsLater old mid → IsLater mid new → IsWithin files document_limit (get_or names k []) bytes → IsShredded bytes mid tree → IsKept tree (get_or names k []) h new g r → OnOk r (Loaded files (take (k + 1) names) new g)
+pub kept_loaded : (files : Option Files) (names : List (List ℕ)) (k : ℕ) (bytes : List ℕ) (old mid new : Texts) (h g : Holdings) (tree : Tree TextId) (r : Result (Unit {0}) Status) → k < length names → Loaded files (take k names) old h → Grows old mid → Grows mid new → IsWithin files document_limit (get_or names k []) bytes → IsShredded bytes mid tree → IsKept tree (get_or names k []) h new g r → OnOk r (Loaded files (take (k + 1) names) new g)
 kept_loaded files names k bytes old mid new h g tree (Ok done) inside l a b read shredded more = subst (λ z. Loaded files z new g) (sym (next_names names k inside)) (loaded_more files (take k names) (get_or names k []) bytes old mid new h g tree l a b read shredded more)
 kept_loaded files names k bytes old mid new h g tree (Err e) inside l a b read shredded more = tt
 

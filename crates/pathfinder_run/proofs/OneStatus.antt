@@ -1,13 +1,13 @@
 -- Told files mean at most one status.
 use Rattle.std.proofs.Common.{◌≡◌, ◌<◌, ◌≤◌, ◌+◌, ℕ, zero, suc, List, [], ◌∷◌, length, take, map, get_or, inl, inr, Option, Some, None, refl, sym, ap, ◌∙◌, subst, arith}
 use Rattle.std.proofs.lemmas.Bool.{cases_lt}
-use Rattle.xq_base.specs.Pool.{AreDifferent}
+use Rattle.xq_base.specs.Distinct.{AllDiffer}
 use Rattle.xq_base.specs.declared.code.Code.{Code}
 use Rattle.io_edge.specs.Shelves.{Files}
 use Rattle.doc_table.specs.Tree.{Tree}
 use Rattle.doc_shred.specs.Document.{IsDocument, IsTooDeep}
 use Rattle.doc_shred.proofs.Documents.{one_tree}
-use Rattle.query_engine.specs.Documents.{Documents}
+use Rattle.doc_table.specs.NodeRules.{Docs}
 use Rattle.query_engine.specs.Answering.{IsRefused, Meaning, Refuses, Fails, Writes, Means}
 use Rattle.query_engine.proofs.OneMeaning.{one_meaning, refused_or_accepts}
 use Rattle.pathfinder_run.specs.declared.status.Status.{Status}
@@ -15,7 +15,8 @@ use Rattle.pathfinder_run.specs.declared.status.Status.TheVariants as s
 use Rattle.pathfinder_run.specs.declared.status.DocFault.{DocFault}
 use Rattle.pathfinder_run.specs.declared.status.DocFault.TheVariants as d
 use Rattle.pathfinder_run.specs.Words.{AreWords, first_place, most_documents}
-use Rattle.pathfinder_run.specs.Inputs.{query_limit, document_limit, IsWithin, IsLong, IsGood, IsRefusedAs, IsDocumentFile, AreDocuments, DocumentFails, StopsAt}
+use Rattle.doc_shred.specs.Limits.{document_limit}
+use Rattle.pathfinder_run.specs.Inputs.{query_limit, IsWithin, IsLong, IsGood, IsRefusedAs, IsDocumentFile, AreDocuments, DocumentFails, StopsAt}
 use Rattle.pathfinder_run.specs.Top.{IsRun, IsRefusal, IsStop, IsMeant, IsStatusOf, Deserves, too_many, too_long, refused, stopped, ran, NoAnswer, Answered, CountExactly, Exactly}
 
 -- ---- one file
@@ -87,7 +88,7 @@ module _ (files : Files) where
 
   -- ---- all documents
 
-  same_docs : (names : List (List ℕ)) (a b : Documents) → AreDocuments (Some files) names a → AreDocuments (Some files) names b → a ≡ b
+  same_docs : (names : List (List ℕ)) (a b : Docs) → AreDocuments (Some files) names a → AreDocuments (Some files) names b → a ≡ b
   same_docs [] [] [] x y = refl
   same_docs (n ∷ names) (a ∷ as') (b ∷ bs) x y =
       let first : a ≡ b = ap (λ z. (z, a.1)) (x.0 ∙ sym y.0) ∙ ap (λ z. (b.0, z)) (one_file_tree n a.1 b.1 x.1 y.1) in
@@ -97,27 +98,21 @@ module _ (files : Files) where
   same_docs (n ∷ names) [] b x y = absurd x
   same_docs (n ∷ names) (a ∷ as') [] x y = absurd y
 
-  names_are : (names : List (List ℕ)) (docs : Documents) → AreDocuments (Some files) names docs → map (λ (d : List ℕ × Tree (List ℕ)). d.0) docs ≡ names
-  names_are [] [] a = refl
-  names_are (n ∷ names) (d ∷ docs) a = ap (λ z. z ∷ map (λ (d : List ℕ × Tree (List ℕ)). d.0) docs) a.0 ∙ ap (λ z. n ∷ z) (names_are names docs a.2)
-  names_are [] (d ∷ docs) a = absurd a
-  names_are (n ∷ names) [] a = absurd a
-
   -- the k-th document of these
-  kept_at : (names : List (List ℕ)) (docs : Documents) (k : ℕ) → k < length names → AreDocuments (Some files) names docs → (t : Tree (List ℕ)) × IsDocumentFile (Some files) (get_or names k []) t
+  kept_at : (names : List (List ℕ)) (docs : Docs) (k : ℕ) → k < length names → AreDocuments (Some files) names docs → (t : Tree (List ℕ)) × IsDocumentFile (Some files) (get_or names k []) t
   kept_at [] docs k h a = absurd (omega (arith, h))
   kept_at (n ∷ names) (d ∷ docs) zero h a = (d.1, a.1)
   kept_at (n ∷ names) (d ∷ docs) (suc k) h a = kept_at names docs k (omega (arith, h)) a.2
   kept_at (n ∷ names) [] k h a = absurd a
 
-  kept_before : (names : List (List ℕ)) (docs : Documents) (i k : ℕ) → i < k → i < length names → AreDocuments (Some files) (take k names) docs → (t : Tree (List ℕ)) × IsDocumentFile (Some files) (get_or names i []) t
+  kept_before : (names : List (List ℕ)) (docs : Docs) (i k : ℕ) → i < k → i < length names → AreDocuments (Some files) (take k names) docs → (t : Tree (List ℕ)) × IsDocumentFile (Some files) (get_or names i []) t
   kept_before [] docs i k l h a = absurd (omega (arith, h))
   kept_before (n ∷ names) docs i zero l h a = absurd (omega (arith, l))
   kept_before (n ∷ names) (d ∷ docs) zero (suc k) l h a = (d.1, a.1)
   kept_before (n ∷ names) (d ∷ docs) (suc i) (suc k) l h a = kept_before names docs i k (omega (arith, l)) (omega (arith, h)) a.2
   kept_before (n ∷ names) [] i (suc k) l h a = absurd a
 
-  run_or_stop : (names : List (List ℕ)) (docs : Documents) (status : Status) → IsMeant status → AreDocuments (Some files) names docs → StopsAt (Some files) names status → ⊥
+  run_or_stop : (names : List (List ℕ)) (docs : Docs) (status : Status) → IsMeant status → AreDocuments (Some files) names docs → StopsAt (Some files) names status → ⊥
   run_or_stop names docs status m a st =
       let k = kept_at names docs st.number st.there a in
       kept_or_fails (get_or names st.number []) k.0 (st.number + first_place) status m k.1 st.cause
@@ -142,13 +137,12 @@ module _ (files : Files) where
 
   -- ---- statuses
 
-  module _ (query : List ℕ) (names : List (List ℕ)) (different : AreDifferent names) where
+  module _ (query : List ℕ) (names : List (List ℕ)) where
     one_run : (a b : Meaning) → IsRun (Some files) query names a → IsRun (Some files) query names b → a ≡ b
     one_run a b x y =
         let text = same_file query_limit query_limit query x.text y.text x.read y.read in
         let docs = same_docs names x.docs y.docs x.documents y.documents in
-        one_meaning y.docs y.text a b (subst AreDifferent (sym (names_are names y.docs y.documents)) different)
-        (subst (λ z. Means y.docs z a) text (subst (λ z. Means z x.text a) docs x.means)) y.means
+        one_meaning y.docs y.text a b (subst (λ z. Means y.docs z a) text (subst (λ z. Means z x.text a) docs x.means)) y.means
 
     one_status_of : (m : Meaning) (a b : Status) → IsStatusOf m a → IsStatusOf m b → a ≡ b
     one_status_of (Refuses code place) a b x y = absurd x
@@ -158,13 +152,13 @@ module _ (files : Files) where
     ran_or_refused : (m : Meaning) (status : Status) (code : Code) (place : Option ℕ) → IsStatusOf m status → IsRun (Some files) query names m → IsRefusal (Some files) query code place → ⊥
     ran_or_refused m status code place i x r =
         let text = same_file query_limit query_limit query r.text x.text r.read x.read in
-        let same : m ≡ Refuses code place = one_meaning x.docs x.text m (Refuses code place) (subst AreDifferent (sym (names_are names x.docs x.documents)) different) x.means (subst (λ z. IsRefused z code place) text r.refused) in
+        let same : m ≡ Refuses code place = one_meaning x.docs x.text m (Refuses code place) x.means (subst (λ z. IsRefused z code place) text r.refused) in
         subst (λ z. IsStatusOf z status) same i
 
     one_refusal : (c k : Code) (p q : Option ℕ) → IsRefusal (Some files) query c p → IsRefusal (Some files) query k q → s.Static c p ≡ s.Static k q
     one_refusal c k p q x y =
         let text = same_file query_limit query_limit query x.text y.text x.read y.read in
-        static_of c k p q (one_meaning [] y.text (Refuses c p) (Refuses k q) tt (subst (λ z. IsRefused z c p) text x.refused) y.refused)
+        static_of c k p q (one_meaning [] y.text (Refuses c p) (Refuses k q) (subst (λ z. IsRefused z c p) text x.refused) y.refused)
       where
         static_of : (c k : Code) (p q : Option ℕ) → Refuses c p ≡ Refuses k q → s.Static c p ≡ s.Static k q
         static_of c k p q e = cc
@@ -230,7 +224,7 @@ answered_exactly told words names query old new result v u c a files other other
     let same : query ∷ names ≡ other ∷ others = tails (sym v.all ∙ w.all) in
     let queries : query ≡ other = heads same in
     let lists : names ≡ others = tails same in
-    one_status files query names v.different result status (deserved files query names old new result u m c (subst (λ z. Answered z query names old new result) e a))
+    one_status files query names result status (deserved files query names old new result u m c (subst (λ z. Answered z query names old new result) e a))
     (subst (λ z. Deserves files z names status) (sym queries) (subst (λ z. Deserves files other z status) (sym lists) x))
   where
     heads : {A : Type 0} {x y : A} {xs ys : List A} → x ∷ xs ≡ y ∷ ys → x ≡ y

@@ -1,7 +1,7 @@
 -- Words that come twice.
 use Rattle.std.proofs.Common.{◌≡◌, ◌<◌, ◌+◌, ◌≤◌, ℕ, zero, suc, List, [], ◌∷◌, ◌++◌, length, take, map, get_or, string_bytes, codes, String, Global, ◌⊎◌, inl, inr, sym, ap, ◌∙◌, subst, arith}
 use Rattle.std.proofs.lemmas.List.{take_more, take_all, map-append}
-use Rattle.xq_base.specs.Pool.{Holds, AreDifferent}
+use Rattle.xq_base.specs.Distinct.{Holds, AllDiffer}
 use Rattle.pathfinder_run.specs.Words.{AreWords}
 
 holds_append : (xs ys : List (List ℕ)) (w : List ℕ) → Holds (xs ++ ys) w → Holds xs w ⊎ Holds ys w
@@ -33,7 +33,7 @@ module _ {A : Type 0} (f : A → List ℕ) (xs : List A) (w : List ℕ) where
   none_at_all i h none k = none (subst (λ z. Holds (map f z) w) (sym (take_all i xs h)) k)
 
 -- the words that are in form
-pub are_words : (words rest names : List (String Global)) (mode query : String Global) (q : List ℕ) → words ≡ mode ∷ rest → rest ≡ query ∷ names → string_bytes mode ≡ codes "run" → AreDifferent (map string_bytes names) → q ≡ string_bytes query → AreWords (map string_bytes words) q (map string_bytes names)
+pub are_words : (words rest names : List (String Global)) (mode query : String Global) (q : List ℕ) → words ≡ mode ∷ rest → rest ≡ query ∷ names → string_bytes mode ≡ codes "run" → AllDiffer (map string_bytes names) → q ≡ string_bytes query → AreWords (map string_bytes words) q (map string_bytes names)
 are_words words rest names mode query q a b m d e =
     let all : words ≡ mode ∷ query ∷ names = a ∙ ap (λ xs. mode ∷ xs) b in
     record {

@@ -5,8 +5,10 @@ use Rattle.std.specs.declared.alloc.Global.{Global}
 use Rattle.std.proofs.lemmas.List.{take_more}
 use Rattle.io_edge.specs.Shelves.{Files, Names, MayAppendName}
 use Rattle.doc_table.specs.Stores.{Holdings}
-use Rattle.query_engine.specs.declared.engine.Compiled.{Compiled}
-use Rattle.query_engine.specs.Documents.{Documents, documents_in}
+use Rattle.core_meaning.specs.declared.node.Core.{Core}
+use Rattle.core_meaning.specs.Erasure.{Texts}
+use Rattle.doc_table.specs.NodeRules.{Docs}
+use Rattle.doc_table.specs.Documents.{documents_in}
 use Rattle.query_engine.specs.Answering.{IsCompiled}
 use Rattle.pathfinder_run.specs.declared.status.Status.{Status}
 use Rattle.pathfinder_run.specs.declared.status.Status.TheVariants as s
@@ -44,7 +46,7 @@ asks_then (Some old) (Some x) new query names a f =
 
 -- ---- the answer
 
-pub value_rises : (docs : Documents) (text : List ℕ) (before now : ℕ) (r : Result (Vec ℕ Global) Status) → ValueGiven docs text r → RisesWith before now r
+pub value_rises : (docs : Docs) (text : List ℕ) (before now : ℕ) (r : Result (Vec ℕ Global) Status) → ValueGiven docs text r → RisesWith before now r
 value_rises docs text before now (Ok bytes) v = tt
 value_rises docs text before now (Err s.Done) v = tt
 value_rises docs text before now (Err (s.Static code place)) v = tt
@@ -68,13 +70,13 @@ replied files query names text texts h (Err s.WriteFault) read l v = absurd v
 replied files query names text texts h (Err s.Usage) read l v = absurd v
 replied files query names text texts h (Err (s.TooLarge word)) read l v = absurd v
 
-pub stopped : (files : Option Files) (query : List ℕ) (names : Names) (text : List ℕ) (q : Compiled) (status : Status) → IsWithin files query_limit query text → IsCompiled text q → StopsAt files names status → NoAnswer files query names status
-stopped files query names text q (s.DocRefused word kind) read c st = record { text = text; read = read; accepted = accepted text q c; stops = st }
-stopped files query names text q (s.ReadFault word) read c st = inr (record { text = text; read = read; accepted = accepted text q c; stops = st })
-stopped files query names text q (s.TooLarge word) read c st = inr (record { text = text; read = read; accepted = accepted text q c; stops = st })
-stopped files query names text q s.NoMemory read c st = tt
-stopped files query names text q s.Done read c st = absurd st.cause
-stopped files query names text q (s.Static code place) read c st = absurd st.cause
-stopped files query names text q (s.Dynamic code place) read c st = absurd st.cause
-stopped files query names text q s.WriteFault read c st = absurd st.cause
-stopped files query names text q s.Usage read c st = absurd st.cause
+pub stopped : (files : Option Files) (query : List ℕ) (names : Names) (text : List ℕ) (texts : Texts) (q : Core) (status : Status) → IsWithin files query_limit query text → IsCompiled text texts q → StopsAt files names status → NoAnswer files query names status
+stopped files query names text texts q (s.DocRefused word kind) read c st = record { text = text; read = read; accepted = accepted text texts q c; stops = st }
+stopped files query names text texts q (s.ReadFault word) read c st = inr (record { text = text; read = read; accepted = accepted text texts q c; stops = st })
+stopped files query names text texts q (s.TooLarge word) read c st = inr (record { text = text; read = read; accepted = accepted text texts q c; stops = st })
+stopped files query names text texts q s.NoMemory read c st = tt
+stopped files query names text texts q s.Done read c st = absurd st.cause
+stopped files query names text texts q (s.Static code place) read c st = absurd st.cause
+stopped files query names text texts q (s.Dynamic code place) read c st = absurd st.cause
+stopped files query names text texts q s.WriteFault read c st = absurd st.cause
+stopped files query names text texts q s.Usage read c st = absurd st.cause

@@ -1,67 +1,17 @@
--- A pool that grows keeps the texts of the trees whose numbers it gave.
-use Rattle.std.proofs.Common.{◌≡◌, ◌<◌, ◌≤◌, ◌+◌, ℕ, true, ◌&&◌, List, [], ◌∷◌, length, map, refl, sym, ap, ◌∙◌, arith}
-use Rattle.std.proofs.lemmas.Bool.{ltb-true, and_parts}
-use Rattle.std.proofs.lemmas.List.{get_or-take, length-take}
-use Rattle.std.proofs.lemmas.List.Folds.{list_all-append}
-use Rattle.std.specs.Prelude.{slice_index_or}
-use Rattle.std.specs.List.{list_all}
+-- What a pool that grew keeps.
+use Rattle.std.proofs.Common.{◌≡◌, ◌<◌, ◌≤◌, ℕ, true, List, length}
+use Rattle.std.proofs.lemmas.Bool.{lt-ltb}
 use Rattle.xq_base.specs.declared.item.TextId.{TextId}
-use Rattle.doc_table.specs.Tree.{Label, OfDocument, OfElement, OfAttribute, OfText, OfComment, OfInstruction, Tree, Forest, Branch, no_more, one_more, pair_with, label_with, tree_with, forest_with, text_in, with_texts}
-use Rattle.doc_table.specs.Enc.{line_of, row_name, row_value, row_attributes, enc_at, encs_at}
-use Rattle.doc_table.specs.Given.{is_given, option_given, pair_given, line_given, tree_given}
-use Rattle.doc_shred.specs.Standing.{IsLater}
+use Rattle.doc_table.specs.OtherTexts.{Grows}
+use Rattle.doc_table.specs.Tree.{Tree, text_in, with_texts}
+use Rattle.doc_table.specs.Given.{tree_given}
+use Rattle.doc_table.proofs.GrownPools.{grown_pool_keeps}
 
-pub not_shorter : (old new : List (List ℕ)) → IsLater old new → length old ≤ length new
-not_shorter old new e = omega (arith, ap length (sym e), length-take (length old) new)
+pub not_shorter : (old new : List (List ℕ)) → Grows old new → length old ≤ length new
+not_shorter old new e = (grown_pool_keeps old new e).longer
 
-module _ (old new : List (List ℕ)) (later : IsLater old new) where
-  pub same_text : (id : TextId) → id.0 < length old → text_in new id ≡ text_in old id
-  same_text id h = sym (get_or-take (length old) new id.0 [] h) ∙ ap (λ z. slice_index_or z id.0 []) later
+pub same_text : (old new : List (List ℕ)) → Grows old new → (id : TextId) → id.0 < length old → text_in new id ≡ text_in old id
+same_text old new e id h = (grown_pool_keeps old new e).texts id (lt-ltb id.0 (length old) h)
 
-  id_same : (id : TextId) → is_given (length old) id ≡ true → text_in new id ≡ text_in old id
-  id_same id h = same_text id (ltb-true id.0 (length old) h)
-
-  pairs_same : (as' : List (TextId × TextId)) → list_all (pair_given (length old)) as' ≡ true → map (pair_with (text_in new)) as' ≡ map (pair_with (text_in old)) as'
-  pairs_same [] h = refl
-  pairs_same (a ∷ as') h =
-      let p = and_parts (pair_given (length old) a) (list_all (pair_given (length old)) as') h in
-      let q = and_parts (is_given (length old) a.0) (is_given (length old) a.1) p.0 in
-      rw (id_same a.0 q.0, id_same a.1 q.1, pairs_same as' p.1) refl
-
-  -- the numbers of one node
-  record LabelGiven (l : Label TextId) : Type 0 where
-    pub name : option_given (length old) (row_name l) ≡ true
-    pub value : option_given (length old) (row_value l) ≡ true
-    pub attributes : list_all (pair_given (length old)) (row_attributes l) ≡ true
-
-  label_parts : (l : Label TextId) (size level : ℕ) → line_given (length old) (line_of l size level) ≡ true → LabelGiven l
-  label_parts l size level h =
-      let p = and_parts (option_given (length old) (row_name l) && option_given (length old) (row_value l)) (list_all (pair_given (length old)) (row_attributes l)) h in
-      let q = and_parts (option_given (length old) (row_name l)) (option_given (length old) (row_value l)) p.0 in
-      record { name = q.0; value = q.1; attributes = p.1 }
-
-  label_same : (l : Label TextId) → LabelGiven l → label_with (text_in new) l ≡ label_with (text_in old) l
-  label_same OfDocument g = refl
-  label_same (OfElement n as') g = rw (id_same n g.name, pairs_same as' g.attributes) refl
-  label_same (OfAttribute n v) g =
-      let p = and_parts (pair_given (length old) (n, v)) true g.attributes in
-      let q = and_parts (is_given (length old) n) (is_given (length old) v) p.0 in
-      rw (id_same n q.0, id_same v q.1) refl
-  label_same (OfText v) g = rw (id_same v g.value) refl
-  label_same (OfComment v) g = rw (id_same v g.value) refl
-  label_same (OfInstruction n v) g = rw (id_same n g.name, id_same v g.value) refl
-
-  mutual
-    lines_same : (level : ℕ) (t : Tree TextId) → list_all (line_given (length old)) (enc_at level t) ≡ true → tree_with (text_in new) t ≡ tree_with (text_in old) t
-    lines_same level (Branch l f) h =
-        let p = and_parts (line_given (length old) (line_of l (length (encs_at (level + 1) f)) level)) (list_all (line_given (length old)) (encs_at (level + 1) f)) h in
-        rw (label_same l (label_parts l (length (encs_at (level + 1) f)) level p.0), forest_same (level + 1) f p.1) refl
-
-    forest_same : (level : ℕ) (ts : Forest TextId) → list_all (line_given (length old)) (encs_at level ts) ≡ true → forest_with (text_in new) ts ≡ forest_with (text_in old) ts
-    forest_same level no_more h = refl
-    forest_same level (one_more t ts) h =
-        let p = and_parts (list_all (line_given (length old)) (enc_at level t)) (list_all (line_given (length old)) (encs_at level ts)) (sym (list_all-append (line_given (length old)) (enc_at level t) (encs_at level ts)) ∙ h) in
-        rw (lines_same level t p.0, forest_same level ts p.1) refl
-
-  pub same_tree : (t : Tree TextId) → tree_given (length old) t ≡ true → with_texts new t ≡ with_texts old t
-  same_tree t h = lines_same 0 t h
+pub same_tree : (old new : List (List ℕ)) → Grows old new → (t : Tree TextId) → tree_given (length old) t ≡ true → with_texts new t ≡ with_texts old t
+same_tree old new e t h = (grown_pool_keeps old new e).trees t h

@@ -1,26 +1,20 @@
 -- What the answer of a query says of its text.
-use Rattle.std.proofs.Common.{ℕ, List, Option, Ok, Err, inl, inr, sym, subst}
+use Rattle.std.proofs.Common.{ℕ, List, Option, Ok, Err}
 use Rattle.std.specs.declared.vec.Vec.{Vec}
 use Rattle.std.specs.declared.alloc.Global.{Global}
 use Rattle.xq_base.specs.declared.code.Code.{Code}
-use Rattle.xq_base.specs.declared.code.Code.TheVariants as c
-use Rattle.query_engine.specs.declared.engine.Compiled.{Compiled}
-use Rattle.query_engine.specs.declared.engine.Compiled.TheVariants as m
+use Rattle.doc_table.specs.NodeRules.{Docs}
+use Rattle.core_meaning.specs.declared.node.Core.{Core}
+use Rattle.core_meaning.specs.Erasure.{Texts, core_of}
+use Rattle.core_meaning.specs.ExprOf.{expr_of}
 use Rattle.query_engine.specs.declared.engine.AnswerFault.TheVariants as answer
-use Rattle.core_meaning.specs.Erasure.{expr_of}
-use Rattle.query_engine.specs.Documents.{Documents}
-use Rattle.std.specs.Prelude.{string_bytes}
-use Rattle.query_engine.specs.Answering.{Accepts, IsCompiled, Answers, IsFailing, in_core, no_document, IsWritten, of_core, of_document}
+use Rattle.query_engine.specs.Answering.{Accepts, IsCompiled, Answers, Fails, Writes, Means}
 
-pub written : (docs : Documents) (text : List ℕ) (q : Compiled) (bytes : Vec ℕ Global) → IsCompiled text q → Answers docs q (Ok bytes) → IsWritten docs text bytes.items
-written docs text (m.Core core) bytes i a = of_core (expr_of core) i a
-written docs text (m.Document place name) bytes i a = of_document place (string_bytes name) a.0 i a.1 a.2
+pub written : (docs : Docs) (text : List ℕ) (texts : Texts) (core : Core) (bytes : Vec ℕ Global) → IsCompiled text texts core → Answers docs (expr_of (core_of texts core)) (Ok bytes) → Means docs text (Writes bytes.items)
+written docs text texts core bytes i a = (core_of texts core, i, a)
 
-pub failing : (docs : Documents) (text : List ℕ) (q : Compiled) (code : Code) (place : Option ℕ) → IsCompiled text q → Answers docs q (Err (answer.Dynamic code place)) → IsFailing docs text code place
-failing docs text (m.Core core) code place i a = in_core (expr_of core) code place i a
-failing docs text (m.Document at name) code place i a =
-    subst (λ z. IsFailing docs text z place) (sym a.1) (subst (λ z. IsFailing docs text c.FODC0002 z) (sym a.2) (no_document at (string_bytes name) i a.0))
+pub failing : (docs : Docs) (text : List ℕ) (texts : Texts) (core : Core) (code : Code) (place : Option ℕ) → IsCompiled text texts core → Answers docs (expr_of (core_of texts core)) (Err (answer.Dynamic code place)) → Means docs text (Fails code place)
+failing docs text texts core code place i a = (core_of texts core, i, a)
 
-pub accepted : (text : List ℕ) (q : Compiled) → IsCompiled text q → Accepts text
-accepted text (m.Core core) i = inl (expr_of core, i)
-accepted text (m.Document place name) i = inr (place, string_bytes name, i)
+pub accepted : (text : List ℕ) (texts : Texts) (core : Core) → IsCompiled text texts core → Accepts text
+accepted text texts core i = (core_of texts core, i)

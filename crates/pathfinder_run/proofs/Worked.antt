@@ -1,12 +1,12 @@
 -- Worked examples: trees, scope, Core, answers.
-use Rattle.std.proofs.Common.{◌≡◌, ℕ, pos, negsuc, List, [], ◌∷◌, ◌++◌, decimal, codes, Some, Ok, Err, refl}
+use Rattle.std.proofs.Common.{◌≡◌, ℕ, pos, List, [], ◌∷◌, codes, Some, Ok, Err, refl}
 use Rattle.query_engine.specs.declared.tree.Single.{Single}
 use Rattle.query_engine.specs.declared.tree.Single.TheVariants as single_
 use Rattle.query_engine.specs.declared.tree.Sum.{roll-Sum}
 use Rattle.query_engine.specs.declared.tree.Bind.{roll-Bind}
 use Rattle.query_engine.specs.declared.tree.Primary.{Primary}
 use Rattle.query_engine.specs.declared.tree.Primary.TheVariants as prim_
-use Rattle.core_meaning.specs.Items.{Int}
+use Rattle.xq_base.specs.Atoms.{IntAtom}
 use Rattle.query_engine.specs.Bytes.{ends}
 use Rattle.query_engine.specs.Tokens.{token}
 use Rattle.query_engine.specs.Look.{number_from}
@@ -16,10 +16,9 @@ use Rattle.query_engine.specs.Reading as r
 use Rattle.query_engine.specs.declared.tree.Name.{Name}
 use Rattle.query_engine.specs.Scope.{unbound, least_place}
 use Rattle.query_engine.specs.Normal.{norm}
-use Rattle.query_engine.specs.Serial.{serial}
 use Rattle.pathfinder_run.proofs.Forms.{norm_loop, norm_sum_form, norm_sum-roll, norm_bind-roll, norm_integer, norm_var, norm_paren, in_sum_form, in_sum-roll, in_var}
 use Rattle.xq_base.specs.declared.fun.Fun.TheVariants.{Add}
-use Rattle.core_meaning.specs.Expr.{Lit, Var, Seq, For, Call, one_more, no_more}
+use Rattle.core_meaning.specs.PlainCore.{PlainCore, Lit, Var, Seq, For, Call, one_core, no_cores}
 
 number : ℕ → ℕ → Primary
 number place n = prim_.Integer place (pos n)
@@ -32,11 +31,11 @@ unfolding number sum ends token number_from many_from r.query_from r.single r.si
 one_plus_two = refl
 
 empty_text : r.query_from [] 0 ≡ Err syntax_fault
-unfolding ends token number_from many_from r.query_from r.single r.singles r.more_singles r.next_single r.level r.sum r.prim r.integer r.reference r.variable r.paren r.more_prims r.next_prim
+unfolding ends token number_from many_from r.query_from r.single r.singles r.more_singles r.next_single r.level r.sum r.prim r.integer r.reference r.variable r.paren r.call r.more_prims r.next_prim
 empty_text = refl
 
 letter_behind_digits : r.query_from (codes "1for") 0 ≡ Err syntax_fault
-unfolding ends token number_from many_from r.query_from r.single r.singles r.more_singles r.next_single r.level r.sum r.prim r.integer r.reference r.variable r.paren r.more_prims r.next_prim
+unfolding ends token number_from many_from r.query_from r.single r.singles r.more_singles r.next_single r.level r.sum r.prim r.integer r.reference r.variable r.paren r.call r.more_prims r.next_prim
 letter_behind_digits = refl
 
 too_deep : r.single (codes "1") 0 0 ≡ Err (cut deep 0)
@@ -54,7 +53,7 @@ loop_tree = single_.For 0
     (sum 38 (prim_.Var (named 38 (codes "x"))) (prim_.Var (named 41 (codes "y")) ∷ []))
 
 loop_is_read : r.query_from (codes "for $x in (1,2), $y in (10,20) return $x+$y") 0 ≡ Ok (loop_tree ∷ [], 43)
-unfolding loop_tree named number sum ends token number_from many_from r.query_from r.single r.singles r.more_singles r.next_single r.level r.for_ r.binds r.bind r.more_binds r.next_bind r.sum r.prim r.integer r.reference r.variable r.paren r.items r.more_prims r.next_prim
+unfolding loop_tree named number sum ends token number_from many_from r.query_from r.single r.singles r.more_singles r.next_single r.level r.for_ r.binds r.bind r.more_binds r.next_bind r.sum r.prim r.integer r.reference r.variable r.paren r.call r.items r.more_prims r.next_prim
 loop_is_read = refl
 
 free : Single
@@ -64,10 +63,9 @@ no_binding : least_place (unbound (free ∷ [])) ≡ Some 0
 unfolding free sum named
 no_binding = simp (in_sum_form, in_sum-roll, in_var) refl
 
-loop_core : norm (loop_tree ∷ []) ≡ For 4 5 (Seq (Lit (Int (pos 1))) (Lit (Int (pos 2)))) (For 17 18 (Seq (Lit (Int (pos 10))) (Lit (Int (pos 20)))) (Call 38 Add (one_more (Var 4) (one_more (Var 17) no_more))))
-unfolding loop_tree sum number named
-loop_core = simp (norm_loop, norm_sum_form, norm_sum-roll, norm_bind-roll, norm_integer, norm_var, norm_paren) refl
+int : ℕ → ℕ → PlainCore
+int place n = Lit place (IntAtom (pos n))
 
--- one blank between neighbours, nothing after the last
-four_numbers : serial (Int (pos 11) ∷ Int (pos 21) ∷ Int (negsuc 9) ∷ []) ≡ decimal 11 ++ 32 ∷ (decimal 21 ++ 32 ∷ 45 ∷ decimal 10)
-four_numbers = refl
+loop_core : norm (loop_tree ∷ []) ≡ For 4 4 5 (Seq 10 (int 11 1) (int 13 2)) (For 17 17 18 (Seq 23 (int 24 10) (int 27 20)) (Call 38 Add (one_core (Var 38 4) (one_core (Var 41 17) no_cores))))
+unfolding int loop_tree sum number named
+loop_core = simp (norm_loop, norm_sum_form, norm_sum-roll, norm_bind-roll, norm_integer, norm_var, norm_paren) refl

@@ -9,7 +9,12 @@ use Rattle.doc_table.specs.Tree.{Tree, text_in, with_texts}
 use Rattle.doc_table.specs.Given.{tree_given, trees_given}
 use Rattle.doc_table.specs.Stores.{Holdings, AreGiven, with_doc}
 use Rattle.doc_shred.specs.Document.{IsDocument, IsUnsupported, IsTooDeep}
-use Rattle.query_engine.specs.Documents.{Documents, HaveRoots, documents_in}
+use Rattle.doc_shred.specs.Limits.{document_limit}
+use Rattle.doc_table.specs.Axes.{id_eq}
+use Rattle.doc_table.specs.Spine.{is_empty_id}
+use Rattle.doc_table.specs.DocumentTrees.{is_document_tree}
+use Rattle.doc_table.specs.NodeRules.{Docs}
+use Rattle.doc_table.specs.Documents.{documents_in}
 use Rattle.pathfinder_run.specs.declared.status.Status.{Status}
 use Rattle.pathfinder_run.specs.declared.status.Status.TheVariants as s
 use Rattle.pathfinder_run.specs.declared.status.DocFault.{DocFault}
@@ -19,10 +24,6 @@ use Rattle.pathfinder_run.specs.Words.{first_place}
 -- the most bytes of a query
 abbrev pub query_limit : ℕ
 query_limit = 4096
-
--- the most bytes of a document
-abbrev pub document_limit : ℕ
-document_limit = 67108864
 
 -- these bytes are a name's file, where the shelf tells its files; of another shelf nothing is known
 abbrev pub IsFile : Option Files → List ℕ → List ℕ → Type 0
@@ -58,7 +59,7 @@ pub record IsDocumentFile (files : Option Files) (name : List ℕ) (tree : Tree 
   pub good : IsGood bytes tree
 
 -- the documents of these names, in their order
-abbrev pub AreDocuments : Option Files → List (List ℕ) → Documents → Type 0
+abbrev pub AreDocuments : Option Files → List (List ℕ) → Docs → Type 0
 AreDocuments files [] [] = Unit {0}
 AreDocuments files (name ∷ names) (doc ∷ docs) = (doc.0 ≡ name) × IsDocumentFile files name doc.1 × AreDocuments files names docs
 AreDocuments files [] (doc ∷ docs) = ⊥
@@ -85,6 +86,7 @@ ShredFails bytes word _ = ⊥
 pub record IsShredded (bytes : List ℕ) (texts : List (List ℕ)) (tree : Tree TextId) : Type 0 where
   pub good : IsGood bytes (with_texts texts tree)
   pub given : tree_given (length texts) tree ≡ true
+  pub form : is_document_tree id_eq is_empty_id tree ≡ true
 
 abbrev pub Shreds : List ℕ → ℕ → List (List ℕ) → Result (Tree TextId) Status → Type 0
 Shreds bytes word texts (Ok tree) = IsShredded bytes texts tree
@@ -102,7 +104,7 @@ DocumentFails files name word _ = ⊥
 pub record StopsAt (files : Option Files) (names : List (List ℕ)) (status : Status) : Type 0 where
   pub number : ℕ
   pub there : number < length names
-  pub docs : Documents
+  pub docs : Docs
   pub before : AreDocuments files (take number names) docs
   pub cause : DocumentFails files (get_or names number []) (number + first_place) status
 
@@ -111,7 +113,6 @@ pub record Loaded (files : Option Files) (names texts : List (List ℕ)) (h : Ho
   pub documents : AreDocuments files names (documents_in texts h)
   pub trees : trees_given (length texts) h ≡ true
   pub named : AreGiven texts h.docs
-  pub roots : HaveRoots h
 
 -- all documents are kept, or one isn't
 abbrev pub Loads : Option Files → List (List ℕ) → List (List ℕ) → Holdings → Result (Unit {0}) Status → Type 0

@@ -6,9 +6,12 @@ use Rattle.xq_base.specs.declared.code.Code.{Code}
 use Rattle.io_edge.specs.Causes.{Rose}
 use Rattle.io_edge.specs.Shelves.{Files, Names}
 use Rattle.io_edge.specs.Sinks.{TakesOf, TakesPrefix}
+use Rattle.doc_table.specs.OtherTexts.{Grows}
+use Rattle.core_meaning.specs.declared.node.Core.{Core}
+use Rattle.core_meaning.specs.Erasure.{Texts}
 use Rattle.query_engine.specs.Answering.{Accepts, IsRefused, IsCompiled, Meaning, Refuses, Fails, Writes, Means}
-use Rattle.query_engine.specs.declared.engine.Compiled.{Compiled}
-use Rattle.query_engine.specs.Documents.{Documents}
+use Rattle.query_engine.specs.Evaluated.{CanEvaluate}
+use Rattle.doc_table.specs.NodeRules.{Docs}
 use Rattle.pathfinder_run.specs.declared.status.Status.{Status}
 use Rattle.pathfinder_run.specs.declared.status.Status.TheVariants as s
 use Rattle.pathfinder_run.specs.Words.{InForm, AreWords, query_place, most_documents}
@@ -17,7 +20,7 @@ use Rattle.pathfinder_run.specs.Inputs.{query_limit, IsWithin, IsLong, AreDocume
 -- the query's text and all documents are read, the rules accept them, and the text has this meaning over the documents
 pub record IsRun (files : Option Files) (query : List ℕ) (names : List (List ℕ)) (meaning : Meaning) : Type 0 where
   pub text : List ℕ
-  pub docs : Documents
+  pub docs : Docs
   pub read : IsWithin files query_limit query text
   pub documents : AreDocuments files names docs
   pub means : Means docs text meaning
@@ -128,16 +131,16 @@ TextFails text (s.Static code place) = IsRefused text code place
 TextFails text s.NoMemory = Unit {0}
 TextFails text _ = ⊥
 
-abbrev pub TextCompiled : List ℕ → Result Compiled Status → Type 0
-TextCompiled text (Ok compiled) = IsCompiled text compiled
-TextCompiled text (Err status) = TextFails text status
+abbrev pub TextCompiled : List ℕ → Texts → Result Core Status → Type 0
+TextCompiled text texts (Ok core) = (later : Texts) → Grows texts later → IsCompiled text later core × CanEvaluate later core
+TextCompiled text texts (Err status) = TextFails text status
 
 -- the bytes of a text's value over some documents, or its failure
-abbrev pub ValueFails : Documents → List ℕ → Status → Type 0
+abbrev pub ValueFails : Docs → List ℕ → Status → Type 0
 ValueFails docs text (s.Dynamic code place) = Means docs text (Fails code place)
 ValueFails docs text s.NoMemory = Unit {0}
 ValueFails docs text _ = ⊥
 
-abbrev pub ValueGiven : Documents → List ℕ → Result (Vec ℕ Global) Status → Type 0
+abbrev pub ValueGiven : Docs → List ℕ → Result (Vec ℕ Global) Status → Type 0
 ValueGiven docs text (Ok bytes) = Means docs text (Writes bytes.items)
 ValueGiven docs text (Err status) = ValueFails docs text status

@@ -1,11 +1,11 @@
 -- The words of the command line, as their bytes (own rule).
 use Rattle.std.specs.Prelude.{ℕ, zero, suc, ◌≡◌, List, [], ◌∷◌, codes}
-use Rattle.xq_base.specs.Pool.{AreDifferent}
+use Rattle.xq_base.specs.Distinct.{AllDiffer}
 
 -- the words are `run`, a query and documents, no two of which are the same word
 pub record AreWords (words : List (List ℕ)) (query : List ℕ) (names : List (List ℕ)) : Type 0 where
   pub all : words ≡ codes "run" ∷ query ∷ names
-  pub different : AreDifferent names
+  pub different : AllDiffer names
 
 abbrev pub InForm : List (List ℕ) → Type 0
 InForm words = (query : List ℕ) × (names : List (List ℕ)) × AreWords words query names

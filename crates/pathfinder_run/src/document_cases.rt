@@ -1,9 +1,10 @@
 //! Cases of the whole program over documents in memory.
-use crate::rows::{is_line, only, repeated, words_of};
+use crate::query_cases::{is_line, only, repeated, words_of};
 use crate::top::pathfinder;
 use io_edge::{MemShelf, MemSink};
 use std::alloc::{AllocError, Global};
 use std::test::Fail;
+use xq_base::HashKeys;
 
 /// Files by name.
 type Files<'a> = &'a [(&'a str, &'a [u8])];
@@ -42,7 +43,14 @@ fn gives(
     let mut out = MemSink::new(alloc, 3, Vec::new(alloc));
     let mut diag = MemSink::new(alloc, 5, Vec::new(alloc));
     let words = words_of(alloc, words)?;
-    let status = pathfinder(alloc, words.as_slice(), &mut shelf, &mut out, &mut diag);
+    let status = pathfinder(
+        alloc,
+        HashKeys::new(1, 2),
+        words.as_slice(),
+        &mut shelf,
+        &mut out,
+        &mut diag,
+    );
     Ok(
         status.code() == wanted.code
             && out.taken() == wanted.out
@@ -54,152 +62,92 @@ const A: &[u8] = b"<a x=\"1\"><b>2</b><c/>t<b>3</b></a>";
 
 const WHOLE: &[u8] = b"doc(\"a.xml\")";
 
-/// A query over `a.xml`.
-struct Case {
-    query: &'static [u8],
-    document: &'static [u8],
-    out: &'static [u8],
-    line: &'static [u8],
-    code: u8,
-}
+/// `a.xml` without its end.
+const CUT: &[u8] = b"<a x=\"1\"><b>2</b>";
 
-const QUERIES: [Case; 17] = [
-    Case {
-        query: WHOLE,
-        document: A,
-        out: A,
-        line: b"",
-        code: 0,
-    },
-    Case {
-        query: b"\n doc\t( \r\"a.xml\" ) ",
-        document: A,
-        out: A,
-        line: b"",
-        code: 0,
-    },
-    Case {
-        query: b"doc(\"b.xml\")",
-        document: A,
-        out: b"",
-        line: b"FODC0002 at 0",
-        code: 2,
-    },
-    Case {
-        query: b"  doc(\" a.xml\")",
-        document: A,
-        out: b"",
-        line: b"FODC0002 at 2",
-        code: 2,
-    },
-    // no name, two calls, other quotes, another function, a longer name of it
-    Case {
-        query: b"doc(\"\")",
-        document: A,
-        out: b"",
-        line: b"XPST0003",
-        code: 1,
-    },
-    Case {
-        query: b"doc(\"a.xml\"),1",
-        document: A,
-        out: b"",
-        line: b"XPST0003",
-        code: 1,
-    },
-    Case {
-        query: b"doc('a.xml')",
-        document: A,
-        out: b"",
-        line: b"XPST0003",
-        code: 1,
-    },
-    Case {
-        query: b"dog(\"a.xml\")",
-        document: A,
-        out: b"",
-        line: b"XPST0003",
-        code: 1,
-    },
-    Case {
-        query: b"docs(\"a.xml\")",
-        document: A,
-        out: b"",
-        line: b"XPST0003",
-        code: 1,
-    },
+/// Queries over a document `a.xml`: the document, what is written, the line, the exit status.
+const QUERIES: [(&[u8], &[u8], &[u8], &[u8], u8); 23] = [
+    (WHOLE, A, A, b"", 0),
+    (b"\n doc\t( \r\"a.xml\" ) ", A, A, b"", 0),
+    (b"doc(\"b.xml\")", A, b"", b"FODC0002 at 0", 2),
+    (b"  doc(\" a.xml\")", A, b"", b"FODC0002 at 2", 2),
+    // a call is an expression among others
+    (
+        b"(doc(\"a.xml\"), doc(\"a.xml\"))",
+        A,
+        b"<a x=\"1\"><b>2</b><c/>t<b>3</b></a><a x=\"1\"><b>2</b><c/>t<b>3</b></a>",
+        b"",
+        0,
+    ),
+    (
+        b"doc(\"a.xml\"),1",
+        A,
+        b"<a x=\"1\"><b>2</b><c/>t<b>3</b></a>1",
+        b"",
+        0,
+    ),
+    (
+        b"for $d in (1,doc(\"a.xml\")) return ($d,2)",
+        A,
+        b"1 2<a x=\"1\"><b>2</b><c/>t<b>3</b></a>2",
+        b"",
+        0,
+    ),
+    (
+        b"for $x in (1,2) return doc(\"b.xml\")",
+        A,
+        b"",
+        b"FODC0002 at 23",
+        2,
+    ),
+    (
+        b"(doc(\"a.xml\"),doc(\"b.xml\"),doc(\"c.xml\"))",
+        A,
+        b"",
+        b"FODC0002 at 14",
+        2,
+    ),
+    // sums and documents aren't evaluated together yet
+    (b"doc(\"a.xml\") + 1", A, b"", b"PFRC0004", 1),
+    (b"1 + $x, doc(\"a.xml\")", A, b"", b"XPST0008 at 4", 1),
+    // no name, other quotes, another function, a longer name of it
+    (b"doc(\"\")", A, b"", b"XPST0003", 1),
+    (b"doc('a.xml')", A, b"", b"XPST0003", 1),
+    (b"dog(\"a.xml\")", A, b"", b"XPST0003", 1),
+    (b"docs(\"a.xml\")", A, b"", b"XPST0003", 1),
     // an ampersand, a tab and a byte that isn't ASCII are no characters of a name
-    Case {
-        query: b"doc(\"a&b\")",
-        document: A,
-        out: b"",
-        line: b"XPST0003",
-        code: 1,
-    },
-    Case {
-        query: b"doc(\"a\tb\")",
-        document: A,
-        out: b"",
-        line: b"XPST0003",
-        code: 1,
-    },
-    Case {
-        query: b"doc(\"\xc3\xa4\")",
-        document: A,
-        out: b"",
-        line: b"XPST0003",
-        code: 1,
-    },
+    (b"doc(\"a&b\")", A, b"", b"XPST0003", 1),
+    (b"doc(\"a\tb\")", A, b"", b"XPST0003", 1),
+    (b"doc(\"\xc3\xa4\")", A, b"", b"XPST0003", 1),
     // a document that no query names is read
-    Case {
-        query: b"1",
-        document: A,
-        out: b"1",
-        line: b"",
-        code: 0,
-    },
-    Case {
-        query: b"1",
-        document: b"<a x=\"1\"><b>2</b>",
-        out: b"",
-        line: b"document a.xml is not well-formed",
-        code: 3,
-    },
+    (b"1", A, b"1", b"", 0),
+    (b"1", CUT, b"", b"document a.xml is not well-formed", 3),
     // the query is refused first, and a document before an evaluation
-    Case {
-        query: b"$x",
-        document: b"<a x=\"1\"><b>2</b>",
-        out: b"",
-        line: b"XPST0008 at 0",
-        code: 1,
-    },
-    Case {
-        query: b"1+(2,3)",
-        document: b"<a>",
-        out: b"",
-        line: b"document a.xml is not well-formed",
-        code: 3,
-    },
-    Case {
-        query: b"1+(2,3)",
-        document: A,
-        out: b"",
-        line: b"XPTY0004 at 0",
-        code: 2,
-    },
+    (b"$x", CUT, b"", b"XPST0008 at 0", 1),
+    (
+        b"1+(2,3)",
+        b"<a>",
+        b"",
+        b"document a.xml is not well-formed",
+        3,
+    ),
+    (b"1+(2,3)", A, b"", b"XPTY0004 at 0", 2),
 ];
 
 #[test]
 fn queries_over_a_document(rt: HostRuntime) -> Result<(), Fail> {
     let alloc = rt.alloc();
-    for case in &QUERIES {
-        let files = [("q.xq", case.query), ("a.xml", case.document)];
+    for (place, (query, document, out, line, code)) in QUERIES.iter().enumerate() {
+        let files = [("q.xq", *query), ("a.xml", *document)];
         let wanted = Wanted {
-            out: case.out,
-            line: case.line,
-            code: case.code,
+            out,
+            line,
+            code: *code,
         };
-        assert!(rt; gives(alloc, &["run", "q.xq", "a.xml"], &files, 7, 0, wanted)?);
+        assert!(rt;
+            gives(alloc, &["run", "q.xq", "a.xml"], &files, 7, 0, wanted)?,
+            "case {place}"
+        );
     }
     Ok(())
 }
@@ -274,14 +222,17 @@ const WRITTEN: [(&[u8], &[u8]); 24] = [
 #[test]
 fn documents_are_written_back(rt: HostRuntime) -> Result<(), Fail> {
     let alloc = rt.alloc();
-    for (document, out) in &WRITTEN {
+    for (place, (document, out)) in WRITTEN.iter().enumerate() {
         let files = [("q.xq", WHOLE), ("a.xml", *document)];
         let wanted = Wanted {
             out,
             line: b"",
             code: 0,
         };
-        assert!(rt; gives(alloc, &["run", "q.xq", "a.xml"], &files, 64, 0, wanted)?);
+        assert!(rt;
+            gives(alloc, &["run", "q.xq", "a.xml"], &files, 64, 0, wanted)?,
+            "case {place}"
+        );
     }
     Ok(())
 }

@@ -1,22 +1,23 @@
 //! The files of a call: the query's text, and the documents as the fragments of a store.
-ghost use Rattle.std.specs.Prelude.{◌≡◌, ◌+◌, ◌<◌, ◌≤◌, length, map, take, get_or, string_bytes, [], ◌∷◌, IfErr, OnOk};
-ghost use Rattle.xq_base.specs.Pool.{AreDifferent};
+ghost use Rattle.std.specs.Prelude.{◌≡◌, ◌+◌, ◌<◌, ◌≤◌, true, length, map, take, get_or, string_bytes, [], ◌∷◌, IfErr, OnOk};
+ghost use Rattle.xq_base.specs.Distinct.{AllDiffer};
 ghost use Rattle.io_edge.specs.Causes.{Rose};
 ghost use Rattle.io_edge.specs.Shelves.{MayAppendName};
-ghost use Rattle.doc_shred.specs.Standing.{IsLater};
+ghost use Rattle.doc_table.specs.OtherTexts.{Grows};
+ghost use Rattle.doc_table.specs.Axes.{id_eq};
+ghost use Rattle.doc_table.specs.Spine.{is_empty_id};
+ghost use Rattle.doc_table.specs.DocumentTrees.{is_document_tree};
 ghost use Rattle.pathfinder_run.specs.Words.{first_place, most_documents};
-ghost use Rattle.pathfinder_run.specs.Inputs.{document_limit, FileRead, Shreds, IsKept, IsNew, Loaded, Loads, DocumentFails, RisesWith};
+ghost use Rattle.doc_shred.specs.Limits.{document_limit};
+ghost use Rattle.pathfinder_run.specs.Inputs.{FileRead, Shreds, IsKept, IsNew, Loaded, Loads, DocumentFails, RisesWith};
 ghost use Rattle.pathfinder_run.specs.Top.{AsksAll, AsksFirst};
 
 use crate::status::{DocFault, Status};
-use doc_shred::{ShredFault, shred};
+use doc_shred::{DOCUMENT_LIMIT, ShredFault, shred};
 use doc_table::{Fragment, Store};
 use io_edge::{ReadErr, Shelf, read_whole};
 use std::alloc::Global;
 use xq_base::Pool;
-
-/// The most bytes of a document.
-const DOCUMENT_LIMIT: usize = 67_108_864;
 
 /// The place of the first document's word.
 const FIRST_DOCUMENT: usize = 2;
@@ -52,7 +53,7 @@ fn shred_document(
     pool: &mut Pool,
 ) -> Result<Fragment, Status>
     requires { length bytes.now ≤ document_limit }
-    ensures later { IsLater pool.old pool.new }
+    ensures later { Grows pool.old pool.new }
     ensures shreds { Shreds bytes.now word pool.new result }
 {
     match shred(alloc, bytes, pool) {
@@ -81,8 +82,9 @@ fn keep_document(
     store: &mut Store,
 ) -> Result<(), Status>
     requires new { IsNew pool.old store.old name.now }
+    requires document { is_document_tree id_eq is_empty_id fragment ≡ true }
     requires few { length store.old.docs < most_documents }
-    ensures later { IsLater pool.old pool.new }
+    ensures later { Grows pool.old pool.new }
     ensures kept { IsKept fragment name.now store.old pool.new store.new result }
 {
     let id = match pool.intern(name) {
@@ -106,10 +108,11 @@ fn add_document<F: Shelf>(
 ) -> Result<(), Status>
     requires there { k < length names.now }
     requires few { length names.now ≤ most_documents }
-    requires different { AreDifferent (map string_bytes names.now) }
+    requires different { AllDiffer (map string_bytes names.now) }
     requires loaded { Loaded (F.files shelf.old) (take k (map string_bytes names.now)) pool.old store.old }
     ensures later { F.faults shelf.old ≤ F.faults shelf.new }
     ensures cause { RisesWith (F.faults shelf.old) (F.faults shelf.new) result }
+    ensures grown { Grows pool.old pool.new }
     ensures files { F.files shelf.new ≡ F.files shelf.old }
     ensures asked { MayAppendName (F.asked shelf.old) (F.asked shelf.new) (get_or (map string_bytes names.now) k []) }
     ensures appended { OnOk result (AsksAll (F.asked shelf.old) (F.asked shelf.new) (get_or (map string_bytes names.now) k [] ∷ [])) }
@@ -138,11 +141,12 @@ pub fn load_documents<F: Shelf>(
     store: &mut Store,
 ) -> Result<(), Status>
     requires few { length names.now ≤ most_documents }
-    requires different { AreDifferent (map string_bytes names.now) }
+    requires different { AllDiffer (map string_bytes names.now) }
     requires empty { store.old.docs ≡ [] }
     requires none_built { store.old.built ≡ [] }
     ensures later { F.faults shelf.old ≤ F.faults shelf.new }
     ensures cause { RisesWith (F.faults shelf.old) (F.faults shelf.new) result }
+    ensures grown { Grows pool.old pool.new }
     ensures files { F.files shelf.new ≡ F.files shelf.old }
     ensures asked { AsksFirst (F.asked shelf.old) (F.asked shelf.new) (map string_bytes names.now) }
     ensures loads { Loads (F.files shelf.old) (map string_bytes names.now) pool.new store.new result }

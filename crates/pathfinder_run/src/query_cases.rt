@@ -4,260 +4,74 @@ use crate::top::pathfinder;
 use io_edge::{MemShelf, MemSink};
 use std::alloc::{AllocError, Global};
 use std::test::Fail;
+use xq_base::HashKeys;
 
-/// A query, what is written, the diagnosis without its line end, the exit status.
-struct Case {
-    query: &'static [u8],
-    out: &'static [u8],
-    line: &'static [u8],
-    code: u8,
-}
-
-const CASES: [Case; 38] = [
-    Case {
-        query: b"for $x in (1,2), $y in (10,20) return $x+$y",
-        out: b"11 21 12 22",
-        line: b"",
-        code: 0,
-    },
-    Case {
-        query: b"1+2",
-        out: b"3",
-        line: b"",
-        code: 0,
-    },
-    Case {
-        query: b"",
-        out: b"",
-        line: b"XPST0003",
-        code: 1,
-    },
-    Case {
-        query: b"()",
-        out: b"",
-        line: b"",
-        code: 0,
-    },
-    Case {
-        query: b"() + 1",
-        out: b"",
-        line: b"",
-        code: 0,
-    },
-    Case {
-        query: b"$x",
-        out: b"",
-        line: b"XPST0008 at 0",
-        code: 1,
-    },
-    Case {
-        query: b"1+(2,3)",
-        out: b"",
-        line: b"XPTY0004 at 0",
-        code: 2,
-    },
-    Case {
-        query: b"(1,2)+()",
-        out: b"",
-        line: b"XPTY0004 at 0",
-        code: 2,
-    },
+/// Queries: what is written, the diagnosis without its line end, the exit status.
+const CASES: [(&[u8], &[u8], &[u8], u8); 38] = [
+    (
+        b"for $x in (1,2), $y in (10,20) return $x+$y",
+        b"11 21 12 22",
+        b"",
+        0,
+    ),
+    (b"1+2", b"3", b"", 0),
+    (b"", b"", b"XPST0003", 1),
+    (b"()", b"", b"", 0),
+    (b"() + 1", b"", b"", 0),
+    (b"$x", b"", b"XPST0008 at 0", 1),
+    (b"1+(2,3)", b"", b"XPTY0004 at 0", 2),
+    (b"(1,2)+()", b"", b"XPTY0004 at 0", 2),
     // white space before, between and after
-    Case {
-        query: b" \t\r\n1 \t\r\n,\n2 ",
-        out: b"1 2",
-        line: b"",
-        code: 0,
-    },
+    (b" \t\r\n1 \t\r\n,\n2 ", b"1 2", b"", 0),
     // a keyword ends at a sign
-    Case {
-        query: b"for$x in 1 return $x",
-        out: b"1",
-        line: b"",
-        code: 0,
-    },
+    (b"for$x in 1 return $x", b"1", b"", 0),
     // digits end before a letter
-    Case {
-        query: b"for$x in 1return $x",
-        out: b"",
-        line: b"XPST0003",
-        code: 1,
-    },
+    (b"for$x in 1return $x", b"", b"XPST0003", 1),
     // a keyword has no letter after it
-    Case {
-        query: b"fort",
-        out: b"",
-        line: b"XPST0003",
-        code: 1,
-    },
-    Case {
-        query: b"1for",
-        out: b"",
-        line: b"XPST0003",
-        code: 1,
-    },
+    (b"fort", b"", b"XPST0003", 1),
+    (b"1for", b"", b"XPST0003", 1),
     // and no digit
-    Case {
-        query: b"for $x in 1 return2",
-        out: b"",
-        line: b"XPST0003",
-        code: 1,
-    },
+    (b"for $x in 1 return2", b"", b"XPST0003", 1),
     // a keyword is a name behind a dollar
-    Case {
-        query: b"for $for in 1 return $for",
-        out: b"1",
-        line: b"",
-        code: 0,
-    },
-    Case {
-        query: b"for $ x in 1 return $\nx",
-        out: b"1",
-        line: b"",
-        code: 0,
-    },
+    (b"for $for in 1 return $for", b"1", b"", 0),
+    (b"for $ x in 1 return $\nx", b"1", b"", 0),
     // the longest name
-    Case {
-        query: b"for $xy in (1,2) return $x",
-        out: b"",
-        line: b"XPST0008 at 24",
-        code: 1,
-    },
+    (b"for $xy in (1,2) return $x", b"", b"XPST0008 at 24", 1),
     // the inner hides the outer
-    Case {
-        query: b"for $x in (1,2) return for $x in (3,4) return $x",
-        out: b"3 4 3 4",
-        line: b"",
-        code: 0,
-    },
+    (
+        b"for $x in (1,2) return for $x in (3,4) return $x",
+        b"3 4 3 4",
+        b"",
+        0,
+    ),
     // the source sees the outer
-    Case {
-        query: b"for $x in 1, $x in ($x,2) return $x",
-        out: b"1 2",
-        line: b"",
-        code: 0,
-    },
-    Case {
-        query: b"for $x in $x return 1",
-        out: b"",
-        line: b"XPST0008 at 10",
-        code: 1,
-    },
+    (b"for $x in 1, $x in ($x,2) return $x", b"1 2", b"", 0),
+    (b"for $x in $x return 1", b"", b"XPST0008 at 10", 1),
     // the first by place
-    Case {
-        query: b"($y, for $x in $x return $z)",
-        out: b"",
-        line: b"XPST0008 at 1",
-        code: 1,
-    },
+    (b"($y, for $x in $x return $z)", b"", b"XPST0008 at 1", 1),
     // a body under an empty binding
-    Case {
-        query: b"for $x in () return (1,2)+3",
-        out: b"",
-        line: b"",
-        code: 0,
-    },
+    (b"for $x in () return (1,2)+3", b"", b"", 0),
     // the least site
-    Case {
-        query: b"((1,2)+1, 3+(4,5))",
-        out: b"",
-        line: b"XPTY0004 at 1",
-        code: 2,
-    },
-    Case {
-        query: b"999999999999999999",
-        out: b"999999999999999999",
-        line: b"",
-        code: 0,
-    },
+    (b"((1,2)+1, 3+(4,5))", b"", b"XPTY0004 at 1", 2),
+    (b"999999999999999999", b"999999999999999999", b"", 0),
     // nineteen digits
-    Case {
-        query: b"1000000000000000000",
-        out: b"",
-        line: b"XPST0003",
-        code: 1,
-    },
-    Case {
-        query: b"007+08",
-        out: b"15",
-        line: b"",
-        code: 0,
-    },
-    Case {
-        query: b"1,",
-        out: b"",
-        line: b"XPST0003",
-        code: 1,
-    },
-    Case {
-        query: b"1+",
-        out: b"",
-        line: b"XPST0003",
-        code: 1,
-    },
-    Case {
-        query: b"1 2",
-        out: b"",
-        line: b"XPST0003",
-        code: 1,
-    },
-    Case {
-        query: b"(1",
-        out: b"",
-        line: b"XPST0003",
-        code: 1,
-    },
-    Case {
-        query: b"1)",
-        out: b"",
-        line: b"XPST0003",
-        code: 1,
-    },
-    Case {
-        query: b"for $x return 1",
-        out: b"",
-        line: b"XPST0003",
-        code: 1,
-    },
+    (b"1000000000000000000", b"", b"XPST0003", 1),
+    (b"007+08", b"15", b"", 0),
+    (b"1,", b"", b"XPST0003", 1),
+    (b"1+", b"", b"XPST0003", 1),
+    (b"1 2", b"", b"XPST0003", 1),
+    (b"(1", b"", b"XPST0003", 1),
+    (b"1)", b"", b"XPST0003", 1),
+    (b"for $x return 1", b"", b"XPST0003", 1),
     // only small letters
-    Case {
-        query: b"$X",
-        out: b"",
-        line: b"XPST0003",
-        code: 1,
-    },
+    (b"$X", b"", b"XPST0003", 1),
     // bytes that are not ASCII
-    Case {
-        query: b"\xc3\xa4",
-        out: b"",
-        line: b"XPST0003",
-        code: 1,
-    },
+    (b"\xc3\xa4", b"", b"XPST0003", 1),
     // no comments
-    Case {
-        query: b"1(: c :)",
-        out: b"",
-        line: b"XPST0003",
-        code: 1,
-    },
-    Case {
-        query: b"(1,(2,(),3),4)",
-        out: b"1 2 3 4",
-        line: b"",
-        code: 0,
-    },
-    Case {
-        query: b"1+2+3",
-        out: b"6",
-        line: b"",
-        code: 0,
-    },
-    Case {
-        query: b"for $x in (1,2) return ($x,$x+$x)",
-        out: b"1 2 2 4",
-        line: b"",
-        code: 0,
-    },
+    (b"1(: c :)", b"", b"XPST0003", 1),
+    (b"(1,(2,(),3),4)", b"1 2 3 4", b"", 0),
+    (b"1+2+3", b"6", b"", 0),
+    (b"for $x in (1,2) return ($x,$x+$x)", b"1 2 2 4", b"", 0),
 ];
 
 /// The word of the query.
@@ -302,15 +116,25 @@ fn is_answered(
     let mut out = MemSink::new(alloc, 3, Vec::new(alloc));
     let mut diag = MemSink::new(alloc, 5, Vec::new(alloc));
     let words = words_of(alloc, &["run", NAME])?;
-    let status = pathfinder(alloc, words.as_slice(), &mut shelf, &mut out, &mut diag);
+    let status = pathfinder(
+        alloc,
+        HashKeys::new(1, 2),
+        words.as_slice(),
+        &mut shelf,
+        &mut out,
+        &mut diag,
+    );
     Ok(status.code() == code && out.taken() == answer && is_line(diag.taken(), line))
 }
 
 #[test]
 fn queries_are_answered(rt: HostRuntime) -> Result<(), Fail> {
     let alloc = rt.alloc();
-    for case in &CASES {
-        assert!(rt; is_answered(alloc, case.query, case.out, case.line, case.code)?);
+    for (place, (query, out, line, code)) in CASES.iter().enumerate() {
+        assert!(rt;
+            is_answered(alloc, query, out, line, *code)?,
+            "case {place}"
+        );
     }
     Ok(())
 }
@@ -378,99 +202,37 @@ fn the_least_site_is_reported(rt: HostRuntime) -> Result<(), Fail> {
 
 const LOOPS: &[u8] = b"for $x in (1,2), $y in (10,20) return $x+$y";
 
-/// What the words, the query's file and the calls that fail give: status, out, line.
-struct Outside {
-    words: &'static [&'static str],
-    shelf_fails: u64,
-    out_fails: u64,
-    out: &'static [u8],
-    line: &'static [u8],
-    code: u8,
-}
+/// Words, which call of the shelf and of the answer's sink fails: what is written, the line, the exit
+/// status.
+type Outside = (
+    &'static [&'static str],
+    u64,
+    u64,
+    &'static [u8],
+    &'static [u8],
+    u8,
+);
 
 const USAGE: &[u8] = b"usage: pathfinder run|check|plan|stats|shred|gen QUERY [DOC]...";
 
 const OUTSIDE: [Outside; 10] = [
-    Outside {
-        words: &["run", "q.xq"],
-        shelf_fails: 0,
-        out_fails: 0,
-        out: b"11 21 12 22",
-        line: b"",
-        code: 0,
-    },
-    Outside {
-        words: &["run", "q.xq"],
-        shelf_fails: 1,
-        out_fails: 0,
-        out: b"",
-        line: b"read fault: q.xq",
-        code: 4,
-    },
-    Outside {
-        words: &["run", "q.xq"],
-        shelf_fails: 3,
-        out_fails: 0,
-        out: b"",
-        line: b"read fault: q.xq",
-        code: 4,
-    },
-    Outside {
-        words: &["run", "q.xq"],
-        shelf_fails: 0,
-        out_fails: 1,
-        out: b"",
-        line: b"write fault",
-        code: 5,
-    },
-    Outside {
-        words: &["run", "q.xq"],
-        shelf_fails: 0,
-        out_fails: 2,
-        out: b"1",
-        line: b"write fault",
-        code: 5,
-    },
-    Outside {
-        words: &["run", "none.xq"],
-        shelf_fails: 0,
-        out_fails: 0,
-        out: b"",
-        line: b"read fault: none.xq",
-        code: 4,
-    },
-    Outside {
-        words: &["run"],
-        shelf_fails: 0,
-        out_fails: 0,
-        out: b"",
-        line: USAGE,
-        code: 6,
-    },
-    Outside {
-        words: &[],
-        shelf_fails: 0,
-        out_fails: 0,
-        out: b"",
-        line: USAGE,
-        code: 6,
-    },
-    Outside {
-        words: &["frob", "q.xq"],
-        shelf_fails: 0,
-        out_fails: 0,
-        out: b"",
-        line: USAGE,
-        code: 6,
-    },
-    Outside {
-        words: &["run", "q.xq", "a.xml", "b.xml", "a.xml"],
-        shelf_fails: 0,
-        out_fails: 0,
-        out: b"",
-        line: USAGE,
-        code: 6,
-    },
+    (&["run", "q.xq"], 0, 0, b"11 21 12 22", b"", 0),
+    (&["run", "q.xq"], 1, 0, b"", b"read fault: q.xq", 4),
+    (&["run", "q.xq"], 3, 0, b"", b"read fault: q.xq", 4),
+    (&["run", "q.xq"], 0, 1, b"", b"write fault", 5),
+    (&["run", "q.xq"], 0, 2, b"1", b"write fault", 5),
+    (&["run", "none.xq"], 0, 0, b"", b"read fault: none.xq", 4),
+    (&["run"], 0, 0, b"", USAGE, 6),
+    (&[], 0, 0, b"", USAGE, 6),
+    (&["frob", "q.xq"], 0, 0, b"", USAGE, 6),
+    (
+        &["run", "q.xq", "a.xml", "b.xml", "a.xml"],
+        0,
+        0,
+        b"",
+        USAGE,
+        6,
+    ),
 ];
 
 /// A list with one number, or none for 0.
@@ -483,35 +245,33 @@ pub fn only(alloc: Global, number: u64) -> Result<Vec<u64>, AllocError> {
 }
 
 fn is_outside(alloc: Global, case: &Outside) -> Result<bool, AllocError> {
-    let mut shelf = MemShelf::new(
-        alloc,
-        one_file(alloc, LOOPS)?,
-        1,
-        only(alloc, case.shelf_fails)?,
-    );
-    let mut out = MemSink::new(alloc, 1, only(alloc, case.out_fails)?);
+    let (words, shelf_fails, out_fails, wanted, line, code) = *case;
+    let mut shelf = MemShelf::new(alloc, one_file(alloc, LOOPS)?, 1, only(alloc, shelf_fails)?);
+    let mut out = MemSink::new(alloc, 1, only(alloc, out_fails)?);
     let mut diag = MemSink::new(alloc, 1, Vec::new(alloc));
-    let words = words_of(alloc, case.words)?;
-    let status = pathfinder(alloc, words.as_slice(), &mut shelf, &mut out, &mut diag);
+    let words = words_of(alloc, words)?;
+    let status = pathfinder(
+        alloc,
+        HashKeys::new(1, 2),
+        words.as_slice(),
+        &mut shelf,
+        &mut out,
+        &mut diag,
+    );
     let asked = shelf.asked().len()
-        == if status == Status::Usage || case.shelf_fails == 1 {
+        == if status == Status::Usage || shelf_fails == 1 {
             0
         } else {
             1
         };
-    Ok(
-        asked
-            && status.code() == case.code
-            && out.taken() == case.out
-            && is_line(diag.taken(), case.line),
-    )
+    Ok(asked && status.code() == code && out.taken() == wanted && is_line(diag.taken(), line))
 }
 
 #[test]
 fn words_and_faults_have_their_status(rt: HostRuntime) -> Result<(), Fail> {
     let alloc = rt.alloc();
-    for case in &OUTSIDE {
-        assert!(rt; is_outside(alloc, case)?);
+    for (place, case) in OUTSIDE.iter().enumerate() {
+        assert!(rt; is_outside(alloc, case)?, "case {place}");
     }
     Ok(())
 }
@@ -524,7 +284,14 @@ fn a_failing_diagnosis_leaves_the_status(rt: HostRuntime) -> Result<(), Fail> {
     let mut out = MemSink::new(alloc, 1, Vec::new(alloc));
     let mut diag = MemSink::new(alloc, 3, only(alloc, 3)?);
     let words = words_of(alloc, &["run", NAME])?;
-    let status = pathfinder(alloc, words.as_slice(), &mut shelf, &mut out, &mut diag);
+    let status = pathfinder(
+        alloc,
+        HashKeys::new(1, 2),
+        words.as_slice(),
+        &mut shelf,
+        &mut out,
+        &mut diag,
+    );
     assert!(rt;
         status.code() == 1 && out.taken().is_empty() && diag.taken() == b"XPST00".as_slice()
     );

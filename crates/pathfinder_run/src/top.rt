@@ -1,10 +1,12 @@
 //! The call that the program makes.
 ghost use Rattle.std.specs.Prelude.{ℕ, ◌≡◌, ◌≤◌, ◌∷◌, List, length, map, true, string_bytes};
-ghost use Rattle.xq_base.specs.Pool.{AreDifferent};
+ghost use Rattle.xq_base.specs.Distinct.{AllDiffer};
+ghost use Rattle.doc_table.specs.OtherTexts.{Grows};
 ghost use Rattle.doc_table.specs.Given.{trees_given};
 ghost use Rattle.doc_table.specs.Stores.{AreGiven};
-ghost use Rattle.query_engine.specs.Documents.{HaveRoots, documents_in};
+ghost use Rattle.doc_table.specs.Documents.{documents_in};
 ghost use Rattle.query_engine.specs.Answering.{IsCompiled};
+ghost use Rattle.query_engine.specs.Evaluated.{CanEvaluate};
 ghost use Rattle.pathfinder_run.specs.Words.{AreWords, most_documents};
 ghost use Rattle.pathfinder_run.specs.declared.status.Status.TheVariants.{Usage};
 ghost use Rattle.pathfinder_run.specs.Lines.{Said, line};
@@ -15,11 +17,12 @@ use crate::diagnosis::say;
 use crate::inputs::{load_documents, read_file};
 use crate::status::Status;
 use crate::words::split_words;
+use core_meaning::Core;
 use doc_table::Store;
 use io_edge::{Shelf, Sink, write_whole};
-use query_engine::{AnswerFault, CompileFault, Compiled, answer, compile};
+use query_engine::{AnswerFault, CompileFault, answer, compile};
 use std::alloc::Global;
-use xq_base::Pool;
+use xq_base::{HashKeys, Pool};
 
 /// The most bytes of a query file.
 const QUERY_LIMIT: usize = 4096;
@@ -31,29 +34,25 @@ const QUERY_WORD: usize = 1;
 const MOST_DOCUMENTS: usize = 16;
 
 /// A query's text, checked by the static rules.
-fn compile_text(alloc: Global, text: &[u8]) -> Result<Compiled, Status>
-    ensures { TextCompiled text.now result }
+fn compile_text(alloc: Global, text: &[u8], pool: &mut Pool) -> Result<Core, Status>
+    ensures later { Grows pool.old pool.new }
+    ensures compiled { TextCompiled text.now pool.new result }
 {
-    match compile(alloc, text) {
-        Ok(compiled) => Ok(compiled),
+    match compile(alloc, text, pool) {
+        Ok(core) => Ok(core),
         Err(CompileFault::NoMemory) => Err(Status::NoMemory),
         Err(CompileFault::Refused { code, offset }) => Err(Status::Static { code, offset }),
     }
 }
 
 /// The bytes of a query's value over the documents of a store, or why there are none.
-fn answer_over(
-    alloc: Global,
-    compiled: &Compiled,
-    store: &Store,
-    pool: &Pool,
-) -> Result<Vec<u8>, Status>
+fn answer_over(alloc: Global, core: &Core, store: &Store, pool: &Pool) -> Result<Vec<u8>, Status>
+    requires evaluated { CanEvaluate pool.now core.now }
     requires trees { trees_given (length pool.now) store.now ≡ true }
     requires names { AreGiven pool.now store.now.docs }
-    requires roots { HaveRoots store.now }
-    ensures { (text : List ℕ) → IsCompiled text compiled.now → ValueGiven (documents_in pool.now store.now) text result }
+    ensures { (text : List ℕ) → IsCompiled text pool.now core.now → ValueGiven (documents_in pool.now store.now) text result }
 {
-    match answer(alloc, compiled, store, pool) {
+    match answer(alloc, core, store, pool) {
         Ok(bytes) => Ok(bytes),
         Err(AnswerFault::NoMemory) => Err(Status::NoMemory),
         Err(AnswerFault::Dynamic { code, offset }) => Err(Status::Dynamic { code, offset }),
@@ -63,12 +62,13 @@ fn answer_over(
 /// The bytes of the answer of a query over the documents of some names, or why there are none.
 fn reply<F: Shelf>(
     alloc: Global,
+    keys: HashKeys,
     query: &str,
     names: &[String],
     shelf: &mut F,
 ) -> Result<Vec<u8>, Status>
     requires few { length names.now ≤ most_documents }
-    requires different { AreDifferent (map string_bytes names.now) }
+    requires different { AllDiffer (map string_bytes names.now) }
     ensures later { F.faults shelf.old ≤ F.faults shelf.new }
     ensures cause { RisesWith (F.faults shelf.old) (F.faults shelf.new) result }
     ensures files { F.files shelf.new ≡ F.files shelf.old }
@@ -79,14 +79,14 @@ fn reply<F: Shelf>(
         Ok(text) => text,
         Err(status) => return Err(status),
     };
-    let compiled = match compile_text(alloc, text.as_slice()) {
-        Ok(compiled) => compiled,
+    let mut pool = Pool::new(alloc, keys);
+    let core = match compile_text(alloc, text.as_slice(), &mut pool) {
+        Ok(core) => core,
         Err(status) => return Err(status),
     };
-    let mut pool = Pool::new(alloc);
     let mut store = Store::new(alloc);
     match load_documents(alloc, names, shelf, &mut pool, &mut store) {
-        Ok(()) => answer_over(alloc, &compiled, &store, &pool),
+        Ok(()) => answer_over(alloc, &core, &store, &pool),
         Err(status) => Err(status),
     }
 }
@@ -94,12 +94,13 @@ fn reply<F: Shelf>(
 /// Answers a query over the documents of some names.
 fn run<F: Shelf, O: Sink>(
     alloc: Global,
+    keys: HashKeys,
     query: &str,
     names: &[String],
     shelf: &mut F,
     out: &mut O,
 ) -> Status
-    requires different { AreDifferent (map string_bytes names.now) }
+    requires different { AllDiffer (map string_bytes names.now) }
     ensures form { result ≡ Usage → ⊥ }
     ensures count { CountExactly (map string_bytes names.now) result }
     ensures answered { Answered (F.files shelf.old) query.now (map string_bytes names.now) (O.taken out.old) (O.taken out.new) result }
@@ -111,7 +112,7 @@ fn run<F: Shelf, O: Sink>(
     if names.len() > MOST_DOCUMENTS {
         return Status::TooLarge { word: None };
     }
-    let bytes = match reply(alloc, query, names, shelf) {
+    let bytes = match reply(alloc, keys, query, names, shelf) {
         Ok(bytes) => bytes,
         Err(status) => return status,
     };
@@ -124,6 +125,7 @@ fn run<F: Shelf, O: Sink>(
 /// Answers the words.
 fn status_of<F: Shelf, O: Sink>(
     alloc: Global,
+    keys: HashKeys,
     words: &[String],
     shelf: &mut F,
     out: &mut O,
@@ -139,13 +141,14 @@ fn status_of<F: Shelf, O: Sink>(
 {
     match split_words(words) {
         None => Status::Usage,
-        Some((query, names)) => run(alloc, query, names, shelf, out),
+        Some((query, names)) => run(alloc, keys, query, names, shelf, out),
     }
 }
 
 /// Answers a command line: the words without the program's name, the files that they name, the sink of
 /// the answer and the sink of the diagnosis. Words in form are `run`, the name of a query's file, and the
-/// names of at most 16 documents, no two of which are the same.
+/// names of at most 16 documents, no two of which are the same. The keys are those of the hash by which texts
+/// are found; no answer hangs on them.
 ///
 /// Done: the static rules accept the query, each document is read, no evaluation fails, and `out` has
 /// taken exactly the serialisation of the query's value. Static: the static rules refuse it. Dynamic:
@@ -158,6 +161,7 @@ fn status_of<F: Shelf, O: Sink>(
 /// a prefix where it counted a fault (own rule).
 pub fn pathfinder<F: Shelf, O: Sink, E: Sink>(
     alloc: Global,
+    keys: HashKeys,
     words: &[String],
     shelf: &mut F,
     out: &mut O,
@@ -173,7 +177,7 @@ pub fn pathfinder<F: Shelf, O: Sink, E: Sink>(
     ensures asked { AsksAtMost (map string_bytes words.now) (F.asked shelf.old) (F.asked shelf.new) }
     ensures line { Said (E.faults diag.old) (E.faults diag.new) (E.taken diag.old) (E.taken diag.new) (line (map string_bytes words.now) result) }
 {
-    let status = status_of(alloc, words, shelf, out);
+    let status = status_of(alloc, keys, words, shelf, out);
     say(diag, words, status);
     status
 }

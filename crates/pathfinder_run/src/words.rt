@@ -1,6 +1,6 @@
 //! The words of the command line.
 ghost use Rattle.std.specs.Prelude.{◌≡◌, ◌↔◌, IfOk, IsTrue, MatchOption, drop, map, string_bytes};
-ghost use Rattle.xq_base.specs.Pool.{AreDifferent, Holds};
+ghost use Rattle.xq_base.specs.Distinct.{AllDiffer, Holds};
 ghost use Rattle.pathfinder_run.specs.Words.{AreWords, InForm};
 
 use std::alloc::Global;
@@ -21,7 +21,7 @@ fn holds(words: &[String], word: &str) -> bool
 
 /// Whether no word equals a later one.
 fn are_different(words: &[String]) -> bool
-    ensures { IsTrue result ↔ AreDifferent (map string_bytes words.now) }
+    ensures { IsTrue result ↔ AllDiffer (map string_bytes words.now) }
 {
     let mut rest = words;
     while let Some((first, more)) = rest.split_first() {

@@ -1,6 +1,7 @@
 use Rattle.std.proofs.Common.{◌+◌, [], map, get_or, string_bytes, sym, subst, arith}
 use Rattle.std.proofs.lemmas.List.{length-map}
-use Rattle.pathfinder_run.specs.Inputs.{IsKept, IsNew, IsWithin, document_limit}
+use Rattle.doc_shred.specs.Limits.{document_limit}
+use Rattle.pathfinder_run.specs.Inputs.{IsKept, IsNew, IsWithin}
 use Rattle.pathfinder_run.proofs.Loading.{shred_fails, loaded_new, few_documents, kept_loaded, named}
 use Rattle.pathfinder_run.proofs.inputs.add_document.Goals as goal
 
