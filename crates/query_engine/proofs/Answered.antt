@@ -1,5 +1,5 @@
 -- What a query's Core answers, from what its evaluation gives and what is written of its value.
-use Rattle.std.proofs.Common.{◌≡◌, ℕ, Bool, true, false, ◌||◌, List, [], ◌∷◌, Option, Some, None, Result, Ok, Err, refl, sym, ap, ◌∙◌, subst}
+use Rattle.std.proofs.Common.{◌≡◌, ℕ, Bool, true, false, ◌||◌, List, [], ◌∷◌, Option, Some, None, Ok, Err, refl, sym, ap, ◌∙◌, subst}
 use Rattle.std.specs.declared.vec.Vec.{Vec}
 use Rattle.std.specs.declared.alloc.Global.{Global}
 use Rattle.xq_base.specs.declared.item.Item.{Item as Held}
@@ -10,7 +10,6 @@ use Rattle.doc_table.specs.StoredItems.{meanings, ItemsGiven}
 use Rattle.doc_table.specs.Documents.{documents_in}
 use Rattle.core_meaning.specs.declared.node.Core.{Core}
 use Rattle.core_meaning.specs.Erasure.{Texts, core_of}
-use Rattle.core_meaning.specs.Expr.{Expr}
 use Rattle.core_meaning.specs.ExprOf.{expr_of}
 use Rattle.core_meaning.specs.PlainCore.{PlainCore}
 use Rattle.core_meaning.specs.Meaning.{no_variables}
@@ -20,7 +19,7 @@ use Rattle.xq_serial.specs.declared.fault.SerialFault.TheVariants.{Attribute}
 use Rattle.query_engine.specs.declared.evaluate.Failed.{Failed}
 use Rattle.query_engine.specs.declared.evaluate.EvalFault.TheVariants.{Reached}
 use Rattle.query_engine.specs.declared.evaluate.Value.{Value}
-use Rattle.query_engine.specs.Evaluated.{has_forms, is_evaluated, CanEvaluate, Runs}
+use Rattle.query_engine.specs.Evaluated.{has_forms, CanEvaluate, Runs}
 use Rattle.query_engine.specs.Evaluating.{AllFit, told, FaultOf, fails_of, CoreGives}
 use Rattle.query_engine.specs.Answering.{IsAnswer, IsFailing, evaluation, attribute}
 use Rattle.query_engine.proofs.EvalLaws.{calm}

@@ -1,7 +1,6 @@
 -- What the parts of a compilation say of it.
 use Rattle.std.proofs.Common.{◌≡◌, ℕ, ◌≤◌, List, [], ◌∷◌, length, map, true, false, Some, None, Result, Ok, refl, sym, ap, ◌∙◌, subst, arith}
 use Rattle.xq_base.specs.declared.code.Code.TheVariants as c
-use Rattle.doc_table.specs.OtherTexts.{Grows}
 use Rattle.query_engine.proofs.Later.{later_self, later_later}
 use Rattle.core_meaning.specs.declared.node.Core.{Core}
 use Rattle.core_meaning.specs.Erasure.{Texts, core_of, cores_of}
@@ -13,8 +12,8 @@ use Rattle.query_engine.specs.Query.{IsQuery, Faults}
 use Rattle.query_engine.specs.Scope.{unbound, least_place}
 use Rattle.query_engine.specs.Normal.{norm}
 use Rattle.query_engine.specs.Nested.{IsRead}
-use Rattle.query_engine.specs.Evaluated.{is_name, is_evaluated, CanEvaluate}
-use Rattle.query_engine.specs.Answering.{IsRefused, no_query, no_binding, no_form, IsAccepted, Compiles}
+use Rattle.query_engine.specs.Evaluated.{is_name, is_evaluated}
+use Rattle.query_engine.specs.Answering.{IsRefused, no_query, no_binding, no_form, Compiles}
 use Rattle.query_engine.proofs.Places.{no_least}
 
 pub unread_syntax : (text : List ℕ) → Faults text Syntax → IsRefused text c.XPST0003 None

@@ -1,13 +1,11 @@
 -- The value and the first failure of each form, from those of its parts.
-use Rattle.std.proofs.Common.{◌≡◌, ℕ, ◌+◌, Bool, true, false, List, [], ◌∷◌, ◌++◌, map, Option, Some, None, is_none, Result, Ok, Err, IfOk, IfErr, refl, sym, ap, ◌∙◌, subst, arith, append_assoc}
+use Rattle.std.proofs.Common.{◌≡◌, ℕ, ◌+◌, Bool, true, false, List, [], ◌∷◌, ◌++◌, Option, Some, None, is_none, Result, Ok, Err, IfOk, IfErr, refl, sym, ap, ◌∙◌, subst, arith}
 use Rattle.std.proofs.lemmas.List.{append-nil, map-append}
 use Rattle.xq_base.specs.declared.item.Item.{Item as Held}
-use Rattle.xq_base.specs.declared.item.Item.TheVariants as i
 use Rattle.xq_base.specs.declared.code.Code.{Code}
 use Rattle.xq_base.specs.declared.fun.Fun.{Fun}
 use Rattle.xq_base.specs.Answers.{Answer, Value, Fault}
-use Rattle.xq_base.specs.Texts.{Text}
-use Rattle.doc_table.specs.Items.{Item, item_of}
+use Rattle.doc_table.specs.Items.{item_of}
 use Rattle.doc_table.specs.Values.{Items}
 use Rattle.doc_table.specs.Stores.{Holdings}
 use Rattle.doc_table.specs.StoredItems.{trees_of, meanings}
@@ -20,9 +18,8 @@ use Rattle.core_meaning.specs.Expr.{Expr, Exprs, Site, Apply}
 use Rattle.core_meaning.specs.PlainCore.{PlainCore, Seq, Let, For, Call, no_cores, one_core}
 use Rattle.core_meaning.specs.ExprOf.{expr_from, site_at}
 use Rattle.core_meaning.specs.Size.{nodes}
-use Rattle.core_meaning.specs.Lawful as lawful
 use Rattle.core_meaning.specs.Laws.{some_failure}
-use Rattle.core_meaning.specs.Meaning.{Env, with_var, in_loop, deeper, both, each_from, val, vals}
+use Rattle.core_meaning.specs.Meaning.{Env, with_var, both, each_from, val, vals}
 use Rattle.core_meaning.specs.Reached.{where_some, all_from}
 use Rattle.core_meaning.specs.Failures.{Failure, failure, faults_of, fails, first}
 use Rattle.core_meaning.proofs.Agreeing.{values_and_failures}
@@ -31,9 +28,9 @@ use Rattle.query_engine.specs.declared.evaluate.Failed.{Failed}
 use Rattle.query_engine.specs.declared.evaluate.EvalFault.{EvalFault}
 use Rattle.query_engine.specs.declared.evaluate.EvalFault.TheVariants.{NoMemory, Reached}
 use Rattle.query_engine.specs.declared.evaluate.Value.{Value as Found}
-use Rattle.query_engine.specs.Evaluating.{AllFit, failed_of, told, Values, Failures, FaultOf, IsValue, Gives, RuleGives, value_of, fails_of, CoreGives, turn_value, turn_fails}
+use Rattle.query_engine.specs.Evaluating.{AllFit, told, Values, Failures, FaultOf, IsValue, Gives, RuleGives, value_of, fails_of, turn_value, turn_fails}
 use Rattle.query_engine.proofs.Firsts.{Between, ahead_first}
-use Rattle.query_engine.proofs.FormFails.{fails-seq, fails-let, fails-for, fails-call, fails_all, fails_all-more, own_fails, within}
+use Rattle.query_engine.proofs.FormFails.{fails-seq, fails-let, fails-for, fails-call, fails_all-more, own_fails, within}
 
 -- ---- the first failure of two lists
 

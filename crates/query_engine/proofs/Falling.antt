@@ -1,5 +1,5 @@
 -- The evaluator's measure falls: four times the nodes, and some more for each step between a node and its parts.
-use Rattle.std.proofs.Common.{◌≡◌, ℕ, ◌+◌, ◌*◌, ◌<◌, refl, sym, ap, ◌∙◌, arith}
+use Rattle.std.proofs.Common.{◌≡◌, ℕ, ◌+◌, ◌*◌, ◌<◌, ap, arith}
 use Rattle.core_meaning.specs.declared.node.Core.{Core}
 use Rattle.core_meaning.specs.Erasure.{Texts, core_of}
 use Rattle.core_meaning.specs.Size.{nodes}

@@ -3,7 +3,6 @@ use Rattle.std.proofs.Common.{◌≡◌, ℕ, ◌+◌, ◌<◌, ◌≤◌, Bool,
 use Rattle.std.proofs.lemmas.Bool.{and_parts, eqb-true}
 use Rattle.std.proofs.lemmas.List.{append-nil}
 use Rattle.std.proofs.lemmas.Grind.{flat_map-append}
-use Rattle.xq_base.specs.declared.code.Code.{Code}
 use Rattle.xq_base.specs.Answers.{Answer, Value, Fault}
 use Rattle.xq_base.specs.Texts.{Text}
 use Rattle.doc_table.specs.Items.{Item}

@@ -1,9 +1,8 @@
 -- A text has at most one meaning.
-use Rattle.std.proofs.Common.{◌≡◌, ℕ, List, [], true, false, Option, Some, None, refl, sym, ap, ◌∙◌, subst}
+use Rattle.std.proofs.Common.{◌≡◌, ℕ, List, [], true, Option, Some, None, refl, sym, ap, ◌∙◌, subst}
 use Rattle.xq_base.specs.declared.code.Code.{Code}
 use Rattle.xq_base.specs.declared.code.Code.TheVariants as c
 use Rattle.doc_table.specs.NodeRules.{Docs}
-use Rattle.doc_table.specs.Values.{Items}
 use Rattle.core_meaning.specs.PlainCore.{PlainCore}
 use Rattle.core_meaning.specs.ExprOf.{expr_of}
 use Rattle.core_meaning.specs.Expr.{Expr}

@@ -1,5 +1,5 @@
 -- The plain Core of each form that is evaluated, and what is asked of its parts.
-use Rattle.std.proofs.Common.{◌≡◌, ℕ, Bool, true, false, not, ◌&&◌, length, List, [], ◌∷◌, map, refl, sym, ap, ◌∙◌, subst}
+use Rattle.std.proofs.Common.{◌≡◌, ℕ, Bool, true, false, not, ◌&&◌, length, List, [], ◌∷◌, map, sym, ap, ◌∙◌}
 use Rattle.std.proofs.lemmas.Bool.{and_parts}
 use Rattle.xq_base.specs.declared.fun.Fun.{Fun}
 use Rattle.xq_base.specs.declared.fun.Fun.TheVariants as f

@@ -1,5 +1,5 @@
 -- Each rule of the reading is exact for its rule of the grammar.
-use Rattle.std.proofs.Common.{◌≡◌, ℕ, zero, suc, ◌+◌, ◌-◌, ◌<◌, Bool, true, false, ◌||◌, ◌==◌, List, [], ◌∷◌, ◌⊎◌, inl, inr, length, refl, subst, arith}
+use Rattle.std.proofs.Common.{◌≡◌, ℕ, zero, suc, ◌+◌, ◌-◌, ◌<◌, Bool, true, false, ◌||◌, ◌==◌, List, [], ◌∷◌, ◌⊎◌, inl, inr, length, refl, arith}
 use Rattle.query_engine.specs.declared.token.Kind.{Kind}
 use Rattle.query_engine.specs.declared.token.Kind.TheVariants as k
 use Rattle.query_engine.specs.declared.tree.Single.{Single}

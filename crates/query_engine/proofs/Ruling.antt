@@ -1,12 +1,10 @@
 -- What a call gives, from what its rule gives on the values of its arguments.
-use Rattle.std.proofs.Common.{◌≡◌, ℕ, ◌+◌, Bool, List, [], ◌∷◌, Option, Some, None, Result, Ok, Err, refl, sym, ap, ◌∙◌, subst, arith}
+use Rattle.std.proofs.Common.{◌≡◌, ℕ, ◌+◌, Bool, List, [], ◌∷◌, Some, Result, Ok, Err, refl, sym, ap, ◌∙◌, subst, arith}
 use Rattle.xq_base.specs.declared.item.Item.{Item as Held}
 use Rattle.xq_base.specs.declared.code.Code.{Code}
 use Rattle.xq_base.specs.declared.fun.Fun.{Fun}
-use Rattle.xq_base.specs.Answers.{Answer, Value, Fault}
 use Rattle.xq_base.specs.Atoms.{TextAtom}
 use Rattle.doc_table.specs.Items.{TextItem}
-use Rattle.doc_table.specs.Values.{Items}
 use Rattle.doc_table.specs.Stores.{Holdings}
 use Rattle.doc_table.specs.StoredItems.{meanings}
 use Rattle.doc_table.specs.Documents.{documents_in}
@@ -22,7 +20,7 @@ use Rattle.query_engine.specs.declared.evaluate.Failed.{Failed}
 use Rattle.query_engine.specs.declared.evaluate.EvalFault.{EvalFault}
 use Rattle.query_engine.specs.declared.evaluate.EvalFault.TheVariants.{NoMemory, Reached}
 use Rattle.query_engine.specs.declared.evaluate.Value.{Value as Found}
-use Rattle.query_engine.specs.Evaluating.{AllFit, told, FaultOf, IsValue, RuleGives, value_of, fails_of, CoreGives}
+use Rattle.query_engine.specs.Evaluating.{told, FaultOf, IsValue, RuleGives, value_of, fails_of, CoreGives}
 use Rattle.query_engine.proofs.FormFails.{fails-call}
 use Rattle.query_engine.proofs.EvalLaws.{two, two_own, two_value}
 

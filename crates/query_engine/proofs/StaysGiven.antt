@@ -1,5 +1,5 @@
 -- A number whose text is the same in every later pool was given.
-use Rattle.std.proofs.Common.{◌≡◌, ◌≤◌, ◌+◌, ℕ, zero, suc, true, List, [], ◌∷◌, length, refl, sym, ap, ◌∙◌, arith, inl, inr}
+use Rattle.std.proofs.Common.{◌≡◌, ◌≤◌, ℕ, zero, suc, true, List, [], ◌∷◌, length, refl, sym, ap, ◌∙◌, arith, inl, inr}
 use Rattle.std.proofs.lemmas.Bool.{cases_lt, lt-ltb}
 use Rattle.std.specs.Prelude.{slice_index_or}
 use Rattle.xq_base.specs.declared.item.TextId.{TextId}
@@ -26,6 +26,6 @@ differ z e d = cc
 
 pub stays_given : (texts : Texts) (id : TextId) → ((later : Texts) → Grows texts later → text_in later id ≡ text_in texts id) → is_given (length texts) id ≡ true
 stays_given texts id h = elim (cases_lt id.0 (length texts)) [
-    | inl a ↦ lt-ltb id.0 (length texts) a
-    | inr b ↦ (let r = renamed texts id.0 (omega arith) in absurd (differ (text_in texts id) r.now (sym (h r.later r.grows) ∙ r.then)))
-  ]
+  | inl a ↦ lt-ltb id.0 (length texts) a
+  | inr b ↦ (let r = renamed texts id.0 (omega arith) in absurd (differ (text_in texts id) r.now (sym (h r.later r.grows) ∙ r.then)))
+]

@@ -1,5 +1,5 @@
 -- What the turns of a loop have found: at the start, after one turn more, and at the end.
-use Rattle.std.proofs.Common.{◌≡◌, ℕ, ℤ, pos, zero, suc, ◌+◌, ◌<◌, ◌≤◌, Bool, true, false, cond, List, [], ◌∷◌, ◌++◌, map, Option, Some, None, Result, Ok, Err, refl, sym, ap, ◌∙◌, subst, append_assoc, get_or, drop, length, arith}
+use Rattle.std.proofs.Common.{◌≡◌, ℕ, ℤ, pos, zero, suc, ◌+◌, ◌<◌, ◌≤◌, Bool, true, false, cond, List, [], ◌∷◌, ◌++◌, Option, Some, None, Result, Ok, Err, refl, sym, ap, ◌∙◌, subst, append_assoc, get_or, drop, length, arith}
 use Rattle.std.proofs.lemmas.List.{append-nil, drop_all, get_or_default}
 use Rattle.std.specs.declared.vec.Vec.{Vec}
 use Rattle.std.specs.declared.alloc.Global.{Global}
@@ -14,16 +14,16 @@ use Rattle.doc_table.specs.Documents.{documents_in}
 use Rattle.core_meaning.specs.Erasure.{Texts}
 use Rattle.core_meaning.specs.PlainCore.{PlainCore}
 use Rattle.core_meaning.specs.ExprOf.{expr_from}
-use Rattle.core_meaning.specs.Meaning.{Env, in_loop, deeper, both, each_from, val}
+use Rattle.core_meaning.specs.Meaning.{Env, in_loop, deeper, both, each_from}
 use Rattle.core_meaning.specs.Reached.{all_from}
-use Rattle.core_meaning.specs.Failures.{Failure, fails, first, is_before, lesser}
+use Rattle.core_meaning.specs.Failures.{Failure, first, is_before, lesser}
 use Rattle.query_engine.specs.declared.evaluate.Failed.{Failed}
 use Rattle.query_engine.specs.declared.evaluate.EvalFault.{EvalFault}
 use Rattle.query_engine.specs.declared.evaluate.EvalFault.TheVariants.{NoMemory, Reached}
 use Rattle.query_engine.specs.declared.evaluate.Found.{Found}
 use Rattle.query_engine.specs.declared.evaluate.Found.TheVariants as f
 use Rattle.query_engine.specs.declared.evaluate.Value.{Value}
-use Rattle.query_engine.specs.Evaluating.{Bound, env_of, Fits, AllFit, failed_of, told, lesser_failed, FaultOf, GivesItems, CoreGives, TurnsGive, SoFar, IsItems, IsStep, turn_value, turn_fails}
+use Rattle.query_engine.specs.Evaluating.{Bound, env_of, Fits, AllFit, failed_of, told, lesser_failed, CoreGives, TurnsGive, SoFar, IsStep, turn_value, turn_fails}
 use Rattle.query_engine.proofs.Drops.{drop_item}
 use Rattle.query_engine.proofs.Firsts.{merged, first-append}
 use Rattle.query_engine.proofs.EvalLaws.{calm, all_fit, meanings_append}
@@ -102,12 +102,13 @@ module _ (sums : Bool) (texts : Texts) (h : Holdings) (n : ℕ) (body : PlainCor
   Turn k i turn = CoreGives sums texts h n body (in_loop x p env k i) turn
 
   items_items : (all rest : Items) (k : ℕ) (i : Item Text) (v w : Vec Held Global) (t : Value) → Before all k (i ∷ rest) (f.Items v) → w.items ≡ v.items ++ t.items.items → Turn k i (Ok t) → Before all (k + 1) rest (f.Items w)
-  items_items all rest k i v w t s e g =
-      (λ vec. s.0 vec ∙ ap (λ o. both (Some (meanings texts h v.items)) (both o (each_from (turn_of vec) (k + 1) rest))) (g.0.0 (deeper vec k))
-       ∙ both_more (meanings texts h v.items) (meanings texts h t.items.items) (each_from (turn_of vec) (k + 1) rest)
-       ∙ ap (λ z. both (Some z) (each_from (turn_of vec) (k + 1) rest)) (sym (meanings_append sums texts h v.items t.items.items) ∙ ap (meanings texts h) (sym e)),
-       λ vec. s.1 vec ∙ ap (λ z. z ++ all_from (failing_of vec) (k + 1) rest) (turn_calm k i vec (meanings texts h t.items.items) (g.0.0 (deeper vec k))),
-       subst (AllFit sums h) (sym e) (all_fit sums texts h v.items t.items.items s.2 g.0.1))
+  items_items all rest k i v w t s e g = (
+    λ vec. s.0 vec ∙ ap (λ o. both (Some (meanings texts h v.items)) (both o (each_from (turn_of vec) (k + 1) rest))) (g.0.0 (deeper vec k))
+        ∙ both_more (meanings texts h v.items) (meanings texts h t.items.items) (each_from (turn_of vec) (k + 1) rest)
+        ∙ ap (λ z. both (Some z) (each_from (turn_of vec) (k + 1) rest)) (sym (meanings_append sums texts h v.items t.items.items) ∙ ap (meanings texts h) (sym e)),
+    λ vec. s.1 vec ∙ ap (λ z. z ++ all_from (failing_of vec) (k + 1) rest) (turn_calm k i vec (meanings texts h t.items.items) (g.0.0 (deeper vec k))),
+    subst (AllFit sums h) (sym e) (all_fit sums texts h v.items t.items.items s.2 g.0.1),
+  )
 
   items_fault : (all rest : Items) (k : ℕ) (i : Item Text) (v : Vec Held Global) (e : Failed) → Before all k (i ∷ rest) (f.Items v) → Turn k i (Err (Reached e)) → Before all (k + 1) rest (f.Failing e)
   items_fault all rest k i v e s g = λ vec. (failing_of vec k i, s.1 vec, g (deeper vec k))

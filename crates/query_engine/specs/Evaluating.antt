@@ -12,7 +12,6 @@ use Rattle.doc_table.specs.Stores.{Holdings, tree_at}
 use Rattle.doc_table.specs.StoredItems.{meanings, IsNodeOf}
 use Rattle.doc_table.specs.Documents.{documents_in}
 use Rattle.core_meaning.specs.Erasure.{Texts}
-use Rattle.core_meaning.specs.Expr.{Expr}
 use Rattle.core_meaning.specs.PlainCore.{PlainCore}
 use Rattle.core_meaning.specs.ExprOf.{expr_from}
 use Rattle.core_meaning.specs.Size.{nodes}

@@ -1,5 +1,5 @@
 -- What the rule of a sum ensures: one integer or none, or a code.
-use Rattle.std.specs.Prelude.{◌≡◌, ℤ, List, [], ◌∷◌, Option, Some, None, Result, Ok, Err}
+use Rattle.std.specs.Prelude.{◌≡◌, ℤ, [], ◌∷◌, Option, Some, None, Result, Ok, Err}
 use Rattle.xq_base.specs.declared.code.Code.{Code}
 use Rattle.xq_base.specs.declared.code.Code.TheVariants as c
 use Rattle.xq_base.specs.Answers.{Answer, Value, Fault}

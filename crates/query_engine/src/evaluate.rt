@@ -490,7 +490,12 @@ impl<'a> Evaluator<'a> {
             Err(fault) => Err(fault),
             Ok(found) => match self.eval(second, found.next, env) {
                 Err(fault) => Err(fault),
-                Ok(more) => self.added(found.items.as_slice(), more.items.as_slice(), offset, more.next),
+                Ok(more) => self.added(
+                    found.items.as_slice(),
+                    more.items.as_slice(),
+                    offset,
+                    more.next,
+                ),
             },
         }
     }

@@ -1,4 +1,4 @@
-use Rattle.std.proofs.Common.{◌≡◌, Err, sym, subst}
+use Rattle.std.proofs.Common.{Err, sym, subst}
 use Rattle.core_meaning.specs.Erasure.{core_of}
 use Rattle.core_meaning.specs.Meaning.{no_variables}
 use Rattle.doc_table.specs.StoredItems.{meanings}

@@ -1,4 +1,4 @@
-use Rattle.std.proofs.Common.{◌≡◌, ◌∷◌, [], ◌&&◌, false, sym, ap, ◌∙◌}
+use Rattle.std.proofs.Common.{◌&&◌, sym, ap, ◌∙◌}
 use Rattle.core_meaning.specs.Erasure.{core_of}
 use Rattle.query_engine.specs.Evaluated.{has_forms}
 use Rattle.query_engine.proofs.Few.{two_of, two_formed, one_formed, more_formed}

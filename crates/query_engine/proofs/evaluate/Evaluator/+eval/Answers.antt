@@ -18,7 +18,7 @@ use Rattle.doc_table.specs.Tree.{text_in}
 use Rattle.query_engine.specs.declared.evaluate.EvalFault.TheVariants.{Reached}
 use Rattle.query_engine.specs.declared.evaluate.Found.TheVariants as found
 use Rattle.query_engine.specs.Evaluated.{Runs}
-use Rattle.query_engine.specs.Evaluating.{bindings_of, env_of, AllFit, FaultOf, IsValue, RuleGives, CoreGives, turn_value, turn_fails}
+use Rattle.query_engine.specs.Evaluating.{bindings_of, env_of, FaultOf, IsValue, RuleGives, CoreGives, turn_value, turn_fails}
 use Rattle.query_engine.proofs.EvalLaws.{plain, seq_failed, seq_then, seq_value, let_failed, let_then, let_value, for_failed, for_then, for_value, two_failed, two_then}
 use Rattle.query_engine.proofs.Falling.{nodes_in, parts_fall, pair_nodes, turn_falls}
 use Rattle.query_engine.proofs.Few.{one_of, two_of}
@@ -100,27 +100,30 @@ eval-sequence-requires t c =
     let s = c.args.self.now in
     let texts = s.pool.now in
     let core = c.args.core.now in
-    let r = seq_runs s.sums texts core c.in-Seq.first c.in-Seq.second c.in-Seq.is c.requires.core in
-    (parts_fall texts core c.in-Seq.first c.in-Seq.second c.get.result.now c.get-in-Seq.result.now t (ap nodes (is_seq texts core c.in-Seq.first c.in-Seq.second c.in-Seq.is)) c.get.ensures c.get-in-Seq.ensures c.decreases,
-    (subst (Runs s.sums texts) (sym c.get.ensures) r.0, (subst (Runs s.sums texts) (sym c.get-in-Seq.ensures) r.1, (c.requires.env, c.requires.names))))
+    let r = seq_runs s.sums texts core c.in-Seq.first c.in-Seq.second c.in-Seq.is c.requires.core in (
+      parts_fall texts core c.in-Seq.first c.in-Seq.second c.get.result.now c.get-in-Seq.result.now t (ap nodes (is_seq texts core c.in-Seq.first c.in-Seq.second c.in-Seq.is)) c.get.ensures c.get-in-Seq.ensures c.decreases,
+      (subst (Runs s.sums texts) (sym c.get.ensures) r.0, (subst (Runs s.sums texts) (sym c.get-in-Seq.ensures) r.1, (c.requires.env, c.requires.names))),
+    )
 
 pub eval-bound-requires : goal.eval-bound-requires
 eval-bound-requires t c =
     let s = c.args.self.now in
     let texts = s.pool.now in
     let core = c.args.core.now in
-    let r = let_runs s.sums texts core c.in-Let.var c.in-Let.bound c.in-Let.body c.in-Let.is c.requires.core in
-    (parts_fall texts core c.in-Let.bound c.in-Let.body c.get-in-Let.result.now c.get-in-Let-2.result.now t (ap nodes (is_let texts core c.in-Let.var c.in-Let.bound c.in-Let.body c.in-Let.is)) c.get-in-Let.ensures c.get-in-Let-2.ensures c.decreases,
-    (subst (Runs s.sums texts) (sym c.get-in-Let.ensures) r.0, (subst (Runs s.sums texts) (sym c.get-in-Let-2.ensures) r.1, (c.requires.env, c.requires.names))))
+    let r = let_runs s.sums texts core c.in-Let.var c.in-Let.bound c.in-Let.body c.in-Let.is c.requires.core in (
+      parts_fall texts core c.in-Let.bound c.in-Let.body c.get-in-Let.result.now c.get-in-Let-2.result.now t (ap nodes (is_let texts core c.in-Let.var c.in-Let.bound c.in-Let.body c.in-Let.is)) c.get-in-Let.ensures c.get-in-Let-2.ensures c.decreases,
+      (subst (Runs s.sums texts) (sym c.get-in-Let.ensures) r.0, (subst (Runs s.sums texts) (sym c.get-in-Let-2.ensures) r.1, (c.requires.env, c.requires.names))),
+    )
 
 pub eval-each-requires : goal.eval-each-requires
 eval-each-requires t c =
     let s = c.args.self.now in
     let texts = s.pool.now in
     let core = c.args.core.now in
-    let r = for_runs s.sums texts core c.in-For.var c.in-For.pos c.in-For.seq c.in-For.body c.in-For.is c.requires.core in
-    (parts_fall texts core c.in-For.seq c.in-For.body c.get-in-For.result.now c.get-in-For-2.result.now t (ap nodes (is_for texts core c.in-For.var c.in-For.pos c.in-For.seq c.in-For.body c.in-For.is)) c.get-in-For.ensures c.get-in-For-2.ensures c.decreases,
-    (subst (Runs s.sums texts) (sym c.get-in-For.ensures) r.0, (subst (Runs s.sums texts) (sym c.get-in-For-2.ensures) r.1, (c.requires.env, c.requires.names))))
+    let r = for_runs s.sums texts core c.in-For.var c.in-For.pos c.in-For.seq c.in-For.body c.in-For.is c.requires.core in (
+      parts_fall texts core c.in-For.seq c.in-For.body c.get-in-For.result.now c.get-in-For-2.result.now t (ap nodes (is_for texts core c.in-For.var c.in-For.pos c.in-For.seq c.in-For.body c.in-For.is)) c.get-in-For.ensures c.get-in-For-2.ensures c.decreases,
+      (subst (Runs s.sums texts) (sym c.get-in-For.ensures) r.0, (subst (Runs s.sums texts) (sym c.get-in-For-2.ensures) r.1, (c.requires.env, c.requires.names))),
+    )
 
 pub eval-sum-requires : goal.eval-sum-requires
 eval-sum-requires t c =
@@ -129,9 +132,10 @@ eval-sum-requires t c =
     let core = c.args.core.now in
     let two = two_of c.as_slice.result.now c.first-item.result c.second-item.result c.in-len2.len_at_least c.in-len2.len_below c.first-item.is c.second-item.is in
     let is : core.kind ≡ k.Call fun.Add (c.first-item.result ∷ c.second-item.result ∷ []) = c.in-Call.is ∙ ap (λ g. k.Call g c.in-Call.arguments) c.in-Add.is ∙ ap (k.Call fun.Add) (sym c.as_slice.ensures ∙ two) in
-    let r = sum_runs s.sums texts core c.first-item.result c.second-item.result is c.requires.core in
-    (parts_fall texts core c.first-item.result c.second-item.result c.first-item.result c.second-item.result t (pair_nodes (nodes_in texts core) (nodes_in texts c.first-item.result) (nodes_in texts c.second-item.result) (ap nodes (is_call texts core fun.Add (c.first-item.result ∷ c.second-item.result ∷ []) is))) refl refl c.decreases,
-    (r.0, (r.1.0, (r.1.1, (c.requires.env, c.requires.names)))))
+    let r = sum_runs s.sums texts core c.first-item.result c.second-item.result is c.requires.core in (
+      parts_fall texts core c.first-item.result c.second-item.result c.first-item.result c.second-item.result t (pair_nodes (nodes_in texts core) (nodes_in texts c.first-item.result) (nodes_in texts c.second-item.result) (ap nodes (is_call texts core fun.Add (c.first-item.result ∷ c.second-item.result ∷ []) is))) refl refl c.decreases,
+      (r.0, (r.1.0, (r.1.1, (c.requires.env, c.requires.names)))),
+    )
 
 pub eval-document-requires-clause-name : goal.eval-document-requires-clause-name
 eval-document-requires-clause-name t c =
@@ -267,7 +271,7 @@ turn-returns-clause-ok t c =
     let env = env_of texts h (bindings_of c.args.env.now) in
     let place : FitsSigned w64 c.in_ok-place.place = search rules in
     let inner = turn_env texts h (bindings_of c.args.env.now) (bindings_of c.as_slice.result.now) (bindings_of c.as_slice-2.result.now) c.args.vars.0.0 c.args.vars.1.0 (c.args.at.0 + 1) c.args.at.1 c.in_ok-alone.field-0.items c.in_ok-alone-2.field-0.items _
-            c.in_ok-alone.ensures.value c.in_ok-alone-2.ensures.value (to_z-of_z w64 c.in_ok-place.place place ∙ c.in_ok-place.ensures.place) (ap (λ bs. bindings_of bs) c.as_slice.ensures.value ∙ c.in_ok-outer.ensures.value) (ap (λ bs. bindings_of bs) c.as_slice-2.ensures.value ∙ c.in_ok-inner.ensures.value) in
+    c.in_ok-alone.ensures.value c.in_ok-alone-2.ensures.value (to_z-of_z w64 c.in_ok-place.place place ∙ c.in_ok-place.ensures.place) (ap (λ bs. bindings_of bs) c.as_slice.ensures.value ∙ c.in_ok-outer.ensures.value) (ap (λ bs. bindings_of bs) c.as_slice-2.ensures.value ∙ c.in_ok-inner.ensures.value) in
     IfOk-weaker c.one_more.result _ _
     (λ new step. next_turn s.sums texts h c.args.site body c.args.vars.0.0 c.args.vars.1.0 env all rest (c.args.at.0 + 1) (item_of texts (trees_of h) c.args.at.1) c.args.found new c.eval.result before step
     (subst (λ z. CoreGives s.sums texts h c.args.site body z c.eval.result) inner c.eval.ensures))

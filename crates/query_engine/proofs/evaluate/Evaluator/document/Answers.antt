@@ -1,7 +1,6 @@
-use Rattle.std.proofs.Common.{◌≡◌, ◌∷◌, [], sym, ap, ◌∙◌, ◌+◌, refl, subst}
+use Rattle.std.proofs.Common.{◌∷◌, [], sym, ap, ◌∙◌, ◌+◌, refl, subst}
 use Rattle.xq_base.specs.Answers.{Value}
-use Rattle.xq_base.specs.declared.item.Item.TheVariants as i
-use Rattle.doc_table.proofs.Documents.{have_roots, root_ref, root_given, root_meaning, found_document, missing_document}
+use Rattle.doc_table.proofs.Documents.{have_roots, root_given, root_meaning, found_document, missing_document}
 use Rattle.doc_table.proofs.Finds.{text-at}
 use Rattle.doc_table.specs.StoredItems.{meanings}
 use Rattle.query_engine.specs.Evaluating.{AllFit}
