@@ -121,8 +121,8 @@ atoms_outcome op _ _ = Silent
 
 -- what a step finds from a cell, with these texts
 abbrev pub cells_found : List Text → Axis → NodeTest → Cell → List Cell
-cells_found texts axis test (NodeItem n) = items_at (found axis (test_with (text_in texts) (test_of test)) n)
-cells_found texts axis test _ = []
+cells_found texts axis t (NodeItem n) = items_at (found axis (test_with (text_in texts) (test_of t)) n)
+cells_found texts axis t _ = []
 
 abbrev pub content_fault : Place → Items → Option Code
 content_fault p.Element vs = element_fault (content_of vs)
