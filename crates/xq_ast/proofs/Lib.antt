@@ -1,2 +1,0 @@
-pub mod PieceSpans
-pub mod Spans

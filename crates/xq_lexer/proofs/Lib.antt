@@ -1,4 +1,0 @@
-pub mod Numbers
-pub mod Runs
-pub mod Scalars
-pub mod Turns

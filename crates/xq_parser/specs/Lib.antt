@@ -1,3 +1,0 @@
-pub mod Nested
-pub mod Parsers
-pub mod Reading

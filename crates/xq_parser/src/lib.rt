@@ -1,4 +1,0 @@
-//! Reading of queries by the grammar of xq_ast.
-#![tactic(auto)]
-
-mod words;
