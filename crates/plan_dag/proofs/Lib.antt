@@ -1,0 +1,10 @@
+pub mod Choices
+pub mod Equal
+pub mod Fitted
+pub mod Grown
+pub mod Inserted
+pub mod Moves
+pub mod Padding
+pub mod Search
+pub mod Sites
+pub mod Worked

@@ -1,0 +1,11 @@
+pub mod Padded
+pub mod Alike
+pub mod Schema
+pub mod Fitting
+pub mod Cells
+pub mod Orders
+pub mod Rows
+pub mod Meaning
+pub mod ItemRules
+pub mod Needed
+pub mod Graphs

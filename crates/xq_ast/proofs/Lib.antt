@@ -1,0 +1,2 @@
+pub mod PieceSpans
+pub mod Spans

@@ -1,0 +1,4 @@
+//! Reading of queries by the grammar of xq_ast.
+#![tactic(auto)]
+
+mod words;

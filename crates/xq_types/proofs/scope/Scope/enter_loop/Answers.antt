@@ -1,0 +1,6 @@
+use Rattle.std.proofs.Common.{◌∙◌}
+use Rattle.xq_types.proofs.Scoping.{back}
+use Rattle.xq_types.proofs.scope.Scope.enter_loop.Goals as goal
+
+pub returns-clause-before : goal.returns-clause-before
+returns-clause-before c = back _ _ _ _ _ (back _ _ _ _ _ c.in_ok-set-2.ensures.ok c.get-place.ensures ∙ c.in_ok-set.ensures.ok) c.get-before.ensures
