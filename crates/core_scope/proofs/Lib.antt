@@ -1,0 +1,2 @@
+pub mod WorkedRefusals
+pub mod WorkedResolving
