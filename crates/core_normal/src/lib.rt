@@ -1,0 +1,2 @@
+//! From a resolved query to its Core.
+#![tactic(auto)]
