@@ -1,1 +1,5 @@
 pub mod WorkedCores
+pub mod Measured
+pub mod PieceSizes
+pub mod SizedLaw
+pub mod QuerySize

@@ -7,3 +7,4 @@ pub mod Sizes
 pub mod Sized
 pub mod SizedQuery
 pub mod Limits
+pub mod Laws
