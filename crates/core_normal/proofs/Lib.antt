@@ -3,3 +3,5 @@ pub mod Measured
 pub mod PieceSizes
 pub mod SizedLaw
 pub mod QuerySize
+pub mod Moves
+pub mod Globals

@@ -7,4 +7,5 @@ pub mod Sizes
 pub mod Sized
 pub mod SizedQuery
 pub mod Limits
+pub mod Shift
 pub mod Laws

@@ -3,4 +3,4 @@
 
 mod laws;
 
-pub use laws::size_is_found;
+pub use laws::{bodies_move, size_is_found};
