@@ -1,0 +1,11 @@
+pub mod Fresh
+pub mod Around
+pub mod Pieces
+pub mod Normal
+pub mod Query
+pub mod Sizes
+pub mod Sized
+pub mod SizedQuery
+pub mod Limits
+pub mod Shift
+pub mod Laws

@@ -1,0 +1,4 @@
+pub mod WorkedRefusals
+pub mod WorkedResolving
+pub mod Certificates
+pub mod WorkedGraphs

@@ -1,0 +1,11 @@
+pub mod Syn
+pub mod Erasure
+pub mod Leaves
+pub mod BuiltIns
+pub mod TypeNames
+pub mod Literals
+pub mod Names
+pub mod Walk
+pub mod Resolving
+pub mod Prolog
+pub mod Refusals
