@@ -1,0 +1,14 @@
+pub mod Chaining
+pub mod Columning
+pub mod Combining
+pub mod FirstRows
+pub mod GroupLaws
+pub mod ItemEqual
+pub mod Joining
+pub mod Keying
+pub mod MatchLaws
+pub mod Numbering
+pub mod PlainLaws
+pub mod Pushing
+pub mod Rowing
+pub mod Selecting
