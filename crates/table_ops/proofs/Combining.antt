@@ -361,6 +361,10 @@ pub on_err : {A E : Type 0} (r : Result A E) (P : Type 0) → P → OnErr r P
 on_err (Ok x) P p = tt
 on_err (Err e) P p = p
 
+pub if_ok_at : {A E B : Type 0} (f : A → B) (r : Result A E) (x y : B) → x ≡ y → IfOk r (λ t. f t ≡ x) → IfOk r (λ t. f t ≡ y)
+if_ok_at f (Ok a) x y e h = h ∙ e
+if_ok_at f (Err b) x y e h = tt
+
 -- an answer, as another value that equals it
 pub if_ok_is : {A E : Type 0} (r : Result A E) (x y : A) → x ≡ y → IfOk r (λ t. t ≡ x) → IfOk r (λ t. t ≡ y)
 if_ok_is (Ok a) x y e h = h ∙ e

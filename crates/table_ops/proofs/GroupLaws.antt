@@ -1,5 +1,5 @@
 -- The first rows and the counts of groups by keys.
-use Rattle.std.proofs.Common.{◌≡◌, ◌<◌, ◌≤◌, ◌+◌, ◌++◌, ◌∙◌, ◌||◌, ◌&&◌, ℕ, zero, suc, Bool, true, false, cond, not, List, [], ◌∷◌, length, map, nat_eq, refl, ap, sym, subst, arith, true≢false, if◌then◌else◌}
+use Rattle.std.proofs.Common.{◌≡◌, ◌<◌, ◌≤◌, ◌+◌, ◌++◌, ◌∙◌, ◌||◌, ◌&&◌, ℕ, zero, suc, Bool, true, false, cond, not, List, [], ◌∷◌, length, map, nat_eq, replicate, refl, ap, sym, subst, arith, true≢false, if◌then◌else◌}
 use Rattle.std.specs.Prelude.{slice_index_or}
 use Rattle.std.specs.List.{filter, list_any}
 use Rattle.std.proofs.lemmas.Bool.Decides.{Decides-eqb}
@@ -73,8 +73,12 @@ record Told (cols ds : List Col) (rows : List (List Item)) : Type 0 where
   tell : TellsFrom (λ q r. all_same kept (cells_of cols ds q) (cells_of cols ds r)) of of rows
   turn : InTurn 0 (keys_by cols ds rows)
 
+same_zeros : (rows : List (List Item)) → replicate {A = ℕ} (length rows) 0 ≡ map (λ r. 0) rows
+same_zeros [] = refl
+same_zeros (r ∷ rows) = ap (λ z. 0 ∷ z) (same_zeros rows)
+
 told : (cols ds : List Col) (rows : List (List Item)) → Told cols ds rows
-told cols [] rows = record { of = λ r. 0; are = refl; tell = none rows; turn = zeros 0 rows }
+told cols [] rows = record { of = λ r. 0; are = same_zeros rows; tell = none rows; turn = subst (InTurn 0) (sym (same_zeros rows)) (zeros 0 rows) }
   where
     none : (rows : List (List Item)) → TellsFrom {X = List Item} {Y = List Item} (λ q r. true) (λ r. 0) (λ r. 0) rows
     none [] = tt
@@ -106,6 +110,20 @@ distinct_rows cols ds rows =
 
 pub keys_many : (cols ds : List Col) (rows : List (List Item)) → length (keys_by cols ds rows) ≡ length rows
 keys_many cols ds rows = let t : Told cols ds rows = told cols ds rows in ap (λ (z : List ℕ). length z) t.are ∙ map_long t.of rows
+
+pub keys_few : (n : ℕ) (cols ds : List Col) (rows : List (List Item)) (ks : List ℕ) → ks ≡ keys_by cols ds rows → length rows < n → length ks < n
+keys_few n cols ds rows ks e h = omega (arith, ap (λ (z : List ℕ). length z) e, keys_many cols ds rows, h)
+
+paired_short : (ks : List ℕ) (cells : List Item) → length (paired ks cells) ≤ length ks
+paired_short [] cells = omega arith
+paired_short (k ∷ ks) [] = omega arith
+paired_short (k ∷ ks) (v ∷ cells) = omega (arith, paired_short ks cells)
+
+pub paired_few : (n : ℕ) (ks : List ℕ) (cells : List Item) (vs : List (ℕ × Item)) → vs ≡ paired ks cells → length ks < n → length vs < n
+paired_few n ks cells vs e h = omega (arith, ap (λ (z : List (ℕ × Item)). length z) e, paired_short ks cells, h)
+
+pub keys_match : (cols ds : List Col) (d : Col) (rows : List (List Item)) (ks : List ℕ) (cells : List Item) → ks ≡ keys_by cols ds rows → cells ≡ cells_at cols d rows → length ks ≡ length cells
+keys_match cols ds d rows ks cells e f = ap (λ (z : List ℕ). length z) e ∙ keys_many cols ds rows ∙ sym (ap (λ (z : List Item). length z) f ∙ map_long (cell_or no_cell cols d) rows)
 
 pub distinct_within : (cols ds : List Col) (rows : List (List Item)) → AllWithin (length rows) (new_places 0 0 (keys_by cols ds rows))
 distinct_within cols ds rows = new_within 0 0 (length rows) (keys_by cols ds rows) (omega (arith, keys_many cols ds rows))

@@ -1,7 +1,7 @@
 -- Keys tell values apart, and come in the order of their first places.
-use Rattle.std.proofs.Common.{◌≡◌, ◌<◌, ◌≤◌, ◌+◌, ◌++◌, ◌∙◌, ◌||◌, ℕ, zero, suc, Bool, true, false, cond, not, List, [], ◌∷◌, length, map, nat_eq, refl, ap, sym, subst, arith, true≢false, if◌then◌else◌}
+use Rattle.std.proofs.Common.{◌≡◌, ◌<◌, ◌≤◌, ◌+◌, ◌++◌, ◌∙◌, ◌||◌, ℕ, zero, suc, Bool, true, false, cond, not, List, [], ◌∷◌, length, map, nat_eq, refl, ap, sym, subst, arith, true≢false, Option, Some, None, if◌then◌else◌}
 use Rattle.std.specs.Prelude.{slice_index_or, nat_lt}
-use Rattle.std.specs.List.{position_or_len, prefix_len, list_any}
+use Rattle.std.specs.List.{position, position_or_len, prefix_len, list_any}
 use Rattle.std.proofs.lemmas.Bool.Decides.{Decides-eqb, Decides-ltb}
 use Rattle.std.proofs.lemmas.List.Sums.{prefix_len-le-length}
 use Rattle.indexmap.specs.IndexSet.{insert_key, insert_all}
@@ -32,6 +32,20 @@ module _ {X : Type 0} (eq : X → X → Bool) where
       by true e = sym ((Decides-ltb 0 (suc (length ys))).1 (omega arith))
       by false e = e ∙ alike _ _ (λ h. (Decides-ltb _ _).1 (omega (arith, (Decides-ltb (place_in eq ys x) (length ys)).0 h))) (λ h. (Decides-ltb _ _).1 (omega (arith, (Decides-ltb (1 + place_in eq ys x) (suc (length ys))).0 h)))
 
+  pub absent_place : (t : List X) (x : X) → None ≡ position (eq x) t → length t ≡ place_in eq t x
+  absent_place t x e = by (nat_lt (place_in eq t x) (length t)) refl e
+    where
+      by : (b : Bool) → nat_lt (place_in eq t x) (length t) ≡ b → None ≡ cond b (Some (place_in eq t x)) None → length t ≡ place_in eq t x
+      by true s e = cc
+      by false s e = grind (arith, Decides-ltb, s, place_le t x)
+
+  pub present_place : (t : List X) (x : X) (k : ℕ) → Some k ≡ position (eq x) t → (k ≡ place_in eq t x) × (k < length t)
+  present_place t x k e = by (nat_lt (place_in eq t x) (length t)) refl e
+    where
+      by : (b : Bool) → nat_lt (place_in eq t x) (length t) ≡ b → Some k ≡ cond b (Some (place_in eq t x)) None → (k ≡ place_in eq t x) × (k < length t)
+      by true s e = let same : k ≡ place_in eq t x = cc in (same, subst (λ n. n < length t) (sym same) ((Decides-ltb _ _).0 s))
+      by false s e = cc
+
   -- what is there keeps its place
   pub place_stays : (t : List X) (x y : X) → place_in eq t x < length t → place_in eq (t ++ y ∷ []) x ≡ place_in eq t x
   place_stays [] x y h = absurd (omega (arith, h))
@@ -48,7 +62,7 @@ module _ {X : Type 0} (eq : X → X → Bool) where
 
   module _ (same : (x y : X) → eq x y ≡ true → x ≡ y) (self : (x : X) → eq x x ≡ true) where
     -- what goes last stands there
-    place_last : (t : List X) (x : X) → list_any (eq x) t ≡ false → place_in eq (t ++ x ∷ []) x ≡ length t
+    pub place_last : (t : List X) (x : X) → list_any (eq x) t ≡ false → place_in eq (t ++ x ∷ []) x ≡ length t
     place_last [] x h = ap (λ b. cond (not b) 1 0) (self x)
     place_last (z ∷ t) x h = by (eq x z) h (place_last t x)
       where
@@ -98,7 +112,7 @@ module _ {X : Type 0} (eq : X → X → Bool) where
         let all = stays_all xs (insert_key eq t x) x (subst (λ n. n < length (insert_key eq t x)) (sym put.0) put.1) in
         λ i. sym (all.0 ∙ put.0) i ∷ keys_are xs (insert_key eq t x) i
 
-    pub AllThere : List X → List X → Type 0
+    unfoldable pub AllThere : List X → List X → Type 0
     AllThere t [] = Unit {0}
     AllThere t (x ∷ xs) = (place_in eq t x < length t) × AllThere t xs
 
@@ -111,7 +125,7 @@ module _ {X : Type 0} (eq : X → X → Bool) where
         (subst (λ n. n < length (insert_all eq (insert_key eq t x) xs)) (sym all.0) all.1, all_there xs (insert_key eq t x))
 
     -- they tell values from those that are there
-    found : (t : List X) (x d : X) → place_in eq t x < length t → slice_index_or t (place_in eq t x) d ≡ x
+    pub found : (t : List X) (x d : X) → place_in eq t x < length t → slice_index_or t (place_in eq t x) d ≡ x
     found [] x d h = absurd (omega (arith, h))
     found (y ∷ t) x d h = by (eq x y) refl h (found t x d)
       where

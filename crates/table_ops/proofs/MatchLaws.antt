@@ -12,6 +12,7 @@ use Rattle.table_ops.specs.Columns.{rows_at, rows_beside, cells_at, no_cell, All
 use Rattle.table_ops.specs.Held.{kept}
 use Rattle.table_ops.specs.Joins.{pair_rows}
 use Rattle.table_ops.specs.Keys.{item_eq, place_in, keys_from, TellsFrom}
+use Rattle.table_ops.specs.Picks.{is_at_least}
 use Rattle.table_ops.specs.Matches.{equal_pairs_from, lone_places}
 use Rattle.table_ops.proofs.Joining.{joined_by_places}
 use Rattle.table_ops.proofs.ItemEqual.{item_same, item_self}
@@ -31,7 +32,7 @@ places_same p q f i [] h = refl
 places_same p q f i (x ∷ xs) h = λ j. cond (h x j) (i ∷ places_same p q f (suc i) xs h j) (places_same p q f (suc i) xs h j)
 
 module _ {X Y : Type 0} (eq : X → Y → Bool) (f : X → ℕ) (g : Y → ℕ) where
-  places_told : (x : X) (i : ℕ) (ys : List Y) → TellsFrom eq f g ys → places_of (eq x) i ys ≡ places_of (nat_eq (f x)) i (map g ys)
+  pub places_told : (x : X) (i : ℕ) (ys : List Y) → TellsFrom eq f g ys → places_of (eq x) i ys ≡ places_of (nat_eq (f x)) i (map g ys)
   places_told x i [] h = refl
   places_told x i (y ∷ ys) h = λ j. cond (h.0 x j) (i ∷ places_told x (suc i) ys h.1 j) (places_told x (suc i) ys h.1 j)
 
@@ -64,7 +65,7 @@ left_below t [] = tt
 left_below t (x ∷ ls) = (omega (arith, place_le item_eq t x), left_below t ls)
 
 -- what was put is there
-any_append : {X : Type 0} (p : X → Bool) (xs : List X) (y : X) → list_any p (xs ++ y ∷ []) ≡ list_any p xs || p y
+pub any_append : {X : Type 0} (p : X → Bool) (xs : List X) (y : X) → list_any p (xs ++ y ∷ []) ≡ list_any p xs || p y
 any_append p [] y = by (p y)
   where
     by : (b : Bool) → b || false ≡ false || b
@@ -111,9 +112,10 @@ any_all t (y ∷ xs) x = any_all (insert_key item_eq t y) xs x ∙ ap (λ z. z |
     or_or false b c = refl
 
 pub lone_by_keys : (ls rs : List Item)
-    → places_of (λ k. not (nat_lt k (length (insert_all item_eq [] rs)))) 0 (map (place_in item_eq (insert_all item_eq [] rs)) ls) ≡ lone_places item_eq ls rs
+    → places_of (is_at_least (length (insert_all item_eq [] rs))) 0 (map (place_in item_eq (insert_all item_eq [] rs)) ls) ≡ lone_places item_eq ls rs
+unfolding is_at_least
 lone_by_keys ls rs =
-    sym (places_same (λ x. not (list_any (item_eq x) rs)) (λ k. not (nat_lt k (length (table_of rs)))) (place_in item_eq (table_of rs)) 0 ls
+    sym (places_same (λ x. not (list_any (item_eq x) rs)) (is_at_least (length (table_of rs))) (place_in item_eq (table_of rs)) 0 ls
     (λ x. ap not (sym (any_all [] rs x) ∙ there_is item_eq (table_of rs) x)))
 
 pub table_short : (xs t : List Item) → length (insert_all item_eq t xs) ≤ length t + length xs
@@ -127,6 +129,22 @@ table_short (x ∷ xs) t = omega (arith, table_short xs (insert_key item_eq t x)
         longer : (ys : List Item) (y : Item) → length (ys ++ y ∷ []) ≡ suc (length ys)
         longer [] y = refl
         longer (z ∷ ys) y = ap suc (longer ys y)
+
+pub table_few : (n : ℕ) (xs table : List Item) → table ≡ insert_all item_eq [] xs → length xs < n → length table < n
+table_few n xs table e h = omega (arith, ap (λ (z : List Item). length z) e, table_short xs [], h)
+
+keys_long : (xs t : List Item) → length (keys_from item_eq t xs) ≡ length xs
+keys_long [] t = refl
+keys_long (x ∷ xs) t = ap suc (keys_long xs (insert_key item_eq t x))
+
+pub keys_few : (n : ℕ) (xs : List Item) (ks : List ℕ) → ks ≡ keys_from item_eq [] xs → length xs < n → length ks < n
+keys_few n xs ks e h = omega (arith, ap (λ (z : List ℕ). length z) e, keys_long xs [], h)
+
+pub chains_below : (xs table : List Item) (ks : List ℕ) (n : ℕ) → table ≡ insert_all item_eq [] xs → ks ≡ keys_from item_eq [] xs → n ≡ length table → AllBelow (n + 1) ks
+chains_below xs table ks n t k e = subst (λ m. AllBelow (m + 1) ks) (sym (e ∙ ap (λ (z : List Item). length z) t)) (subst (AllBelow (length (insert_all item_eq [] xs) + 1)) (sym k) (right_below xs))
+
+pub looked_below : (ls table : List Item) (ks : List ℕ) (n m : ℕ) → ks ≡ map (place_in item_eq table) ls → n ≡ length table → m ≡ n + 1 → AllBelow m ks
+looked_below ls table ks n m k e f = subst (λ j. AllBelow j ks) (sym (f ∙ ap (λ j. j + 1) e)) (subst (AllBelow (length table + 1)) (sym k) (left_below table ls))
 
 -- rows of the pairs are the joined rows
 module _ (lcols rcols : List Col) (a b : Col) where

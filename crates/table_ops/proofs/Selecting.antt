@@ -53,6 +53,9 @@ map_long f (x ∷ xs) = ap suc (map_long f xs)
 pub cells_many : (cols : List Col) (c : Col) (rows : List (List Item)) → length (cells_at cols c rows) ≡ length rows
 cells_many cols c rows = map_long (cell_or no_cell cols c) rows
 
+pub few_cells : (n : ℕ) (cols : List Col) (c : Col) (rows : List (List Item)) (cells : List Item) → cells ≡ cells_at cols c rows → length rows < n → length cells < n
+few_cells n cols c rows cells e h = subst (λ k. k < n) (sym (ap (λ (z : List Item). length z) e ∙ cells_many cols c rows)) h
+
 -- the rows whose cell in a column is true
 pub true_rows : (cols : List Col) (c : Col) (rows : List (List Item)) → rows_at rows (places_of is_true_item 0 (cells_at cols c rows)) ≡ filter (λ q. is_true_item (cell_or no_cell cols c q)) rows
 true_rows cols c rows = picked is_true_item (cell_or no_cell cols c) [] rows

@@ -1,5 +1,5 @@
 -- Keys by several columns, and how often each comes (own rule).
-use Rattle.std.specs.Prelude.{ℕ, zero, suc, Bool, ◌&&◌, List, [], ◌∷◌, length, map, nat_eq}
+use Rattle.std.specs.Prelude.{ℕ, zero, suc, Bool, ◌&&◌, List, [], ◌∷◌, length, map, nat_eq, replicate}
 use Rattle.std.specs.List.{filter}
 use Rattle.xq_base.specs.declared.item.Item.{Item}
 use Rattle.plan_dag.specs.declared.cols.Col.{Col}
@@ -22,7 +22,7 @@ refined keys cells = keys_from both_eq [] (paired keys cells)
 
 -- keys of rows by their cells in some columns
 abbrev pub keys_by : List Col → List Col → List (List Item) → List ℕ
-keys_by cols [] rows = map (λ r. 0) rows
+keys_by cols [] rows = replicate (length rows) 0
 keys_by cols (d ∷ ds) rows = refined (keys_by cols ds rows) (cells_at cols d rows)
 
 -- how often each of so many keys comes
