@@ -1,8 +1,8 @@
 -- Chains of places.
-use Rattle.std.proofs.Common.{◌≡◌, ◌<◌, ◌≤◌, ◌+◌, ◌-◌, ◌++◌, ◌∷◌, [], ℕ, zero, suc, Bool, true, false, cond, List, length, map, drop, set, get_or, slice_index, nat_eq, refl, sym, ap, ◌∙◌, subst, arith, true≢false, Result, Ok, Err, is_ok, is_err, if◌then◌else◌}
+use Rattle.std.proofs.Common.{◌≡◌, ◌<◌, ◌≤◌, ◌+◌, ◌++◌, ◌∷◌, [], ℕ, zero, suc, Bool, true, false, cond, List, length, map, drop, set, slice_index, nat_eq, refl, sym, ap, ◌∙◌, subst, arith, true≢false, Result, Ok, Err, is_ok, is_err, if◌then◌else◌}
 use Rattle.std.proofs.lemmas.Bool.Decides.{Decides-eqb}
 use Rattle.std.proofs.Math.Seq.{drop-cons}
-use Rattle.table_ops.specs.Chains.{places_of, Linked, LeadsOn, IsIndex, IsIndexFrom, IsUnlinked, AllBelow, pairs_from}
+use Rattle.table_ops.specs.Chains.{places_of, Linked, LeadsOn, IsIndexFrom, IsUnlinked, AllBelow, pairs_from}
 
 unfoldable pub AllAbove : ℕ → List ℕ → Type 0
 AllAbove i [] = Unit {0}

@@ -1,5 +1,5 @@
 -- Columns and the cells of rows.
-use Rattle.std.proofs.Common.{◌≡◌, ◌<◌, ◌≤◌, ◌+◌, ◌++◌, ◌∙◌, ◌||◌, ℕ, zero, suc, Bool, true, false, cond, List, [], ◌∷◌, Option, Some, None, is_some, length, map, take, refl, ap, sym, subst, arith, option_map, IfSome}
+use Rattle.std.proofs.Common.{◌≡◌, ◌<◌, ◌++◌, ◌∙◌, ◌||◌, ℕ, zero, suc, Bool, true, false, cond, List, [], ◌∷◌, Option, Some, None, is_some, length, map, take, refl, ap, sym, subst, arith, option_map, IfSome}
 use Rattle.std.specs.Prelude.{slice_index_or}
 use Rattle.xq_base.specs.declared.item.Item.{Item}
 use Rattle.plan_dag.specs.declared.cols.Col.{Col}

@@ -1,5 +1,5 @@
 -- The counts of groups by keys.
-use Rattle.std.proofs.Common.{◌≡◌, ◌<◌, ◌≤◌, ◌+◌, ◌++◌, ◌∙◌, ◌||◌, ℕ, zero, suc, Bool, true, false, cond, not, List, [], ◌∷◌, length, map, nat_eq, refl, ap, sym, subst, arith, true≢false, if◌then◌else◌, Result, IfOk}
+use Rattle.std.proofs.Common.{◌≡◌, ◌<◌, ◌+◌, ◌++◌, ◌∙◌, ◌||◌, ℕ, zero, suc, Bool, true, false, cond, List, [], ◌∷◌, length, map, nat_eq, refl, ap, sym, subst, arith, true≢false, if◌then◌else◌, Result, IfOk}
 use Rattle.std.specs.List.{filter, list_any}
 use Rattle.indexmap.specs.IndexSet.{insert_key, insert_all}
 use Rattle.xq_base.specs.declared.item.Item.{Item}
@@ -14,7 +14,7 @@ use Rattle.table_ops.specs.Held.{kept}
 use Rattle.table_ops.specs.Keys.{item_eq, place_in, keys_from, TellsFrom}
 use Rattle.table_ops.proofs.Combining.{whole, if_ok_is}
 use Rattle.table_ops.proofs.ItemEqual.{item_same, item_self}
-use Rattle.table_ops.proofs.Keying.{AllThere, keys_are, all_there, tells, tells_rows, keys_below, place_stays, place_put, place_last}
+use Rattle.table_ops.proofs.Keying.{AllThere, keys_are, all_there, tells, keys_below, place_stays, place_put, place_last}
 use Rattle.table_ops.proofs.MatchLaws.{any_append}
 
 map_long : {X Y : Type 0} (f : X → Y) (xs : List X) → length (map f xs) ≡ length xs

@@ -1,5 +1,5 @@
 -- Places by key: how they are filed, and how they are found.
-use Rattle.std.proofs.Common.{◌≡◌, ◌<◌, ◌≤◌, ◌+◌, ◌-◌, ◌++◌, ◌∙◌, ℕ, zero, suc, Bool, true, false, cond, List, [], ◌∷◌, length, map, take, drop, nat_eq, refl, ap, sym, subst, arith, true≢false}
+use Rattle.std.proofs.Common.{◌≡◌, ◌<◌, ◌≤◌, ◌+◌, ◌-◌, ◌++◌, ◌∙◌, ℕ, zero, suc, Bool, true, false, cond, List, [], ◌∷◌, length, map, take, drop, nat_eq, refl, ap, sym, subst, arith}
 use Rattle.std.specs.Prelude.{slice_index_or}
 use Rattle.std.proofs.lemmas.Bool.Decides.{Decides-eqb}
 use Rattle.indexmap.specs.IndexSet.{insert_all}
@@ -76,8 +76,11 @@ filed_next n s e keys places news spans more f g a b m = record { many = ap (λ 
     kept : (k : ℕ) → k < n → IsPiece news (span_at spans k) (places_of (nat_eq k) 0 keys)
     kept k h =
         let p = f.pieces k h in
-        record { ordered = p.ordered; within = omega (arith, p.within, ap (λ (z : List ℕ). length z) g ∙ long_append places qs);
-          is = ap (λ z. take ((span_at spans k).1 - (span_at spans k).0) (drop (span_at spans k).0 z)) g ∙ piece_stays (span_at spans k).0 (span_at spans k).1 places qs p.ordered p.within ∙ p.is }
+        record {
+          ordered = p.ordered;
+          within = omega (arith, p.within, ap (λ (z : List ℕ). length z) g ∙ long_append places qs);
+          is = ap (λ z. take ((span_at spans k).1 - (span_at spans k).0) (drop (span_at spans k).0 z)) g ∙ piece_stays (span_at spans k).0 (span_at spans k).1 places qs p.ordered p.within ∙ p.is;
+        }
 
     by : (k : ℕ) (c : Bool) → nat_eq k n ≡ c → k < n + 1 → IsPiece news (span_at more k) (places_of (nat_eq k) 0 keys)
     by k true t h =
@@ -121,7 +124,7 @@ there_of table (y ∷ ys) h = (h.0, there_of table ys h.1)
 pub told_places : (table : List Item) (keys places : List ℕ) (spans : List (ℕ × ℕ)) (cell : Item) → FilesCells table keys spans places → places_of (item_eq cell) 0 (cells_by table keys) ≡ places_of (nat_eq (place_in item_eq table cell)) 0 keys
 told_places table keys places spans cell f =
     places_told item_eq (place_in item_eq table) (place_in item_eq table) cell 0 (cells_by table keys)
-        (tells item_eq item_same item_self table (cells_by table keys) (there_of table (cells_by table keys) (subst (AllBelow (length table)) f.own f.there)))
+    (tells item_eq item_same item_self table (cells_by table keys) (there_of table (cells_by table keys) (subst (AllBelow (length table)) f.own f.there)))
     ∙ ap (places_of (nat_eq (place_in item_eq table cell)) 0) (sym f.own)
 
 none_of : (n k i : ℕ) (keys : List ℕ) → AllBelow n keys → n ≤ k → places_of (nat_eq k) i keys ≡ []

@@ -1,11 +1,9 @@
 -- The rows at the first places of keys are the first of equal rows.
-use Rattle.std.proofs.Common.{◌≡◌, ◌<◌, ◌≤◌, ◌+◌, ◌++◌, ◌∙◌, ◌||◌, ℕ, zero, suc, Bool, true, false, cond, not, List, [], ◌∷◌, length, map, nat_eq, refl, ap, sym, subst, arith, true≢false}
+use Rattle.std.proofs.Common.{◌≡◌, ◌≤◌, ◌++◌, ◌∙◌, ◌||◌, ℕ, suc, Bool, true, false, cond, not, List, [], ◌∷◌, length, map, nat_eq, refl, ap, sym, subst, arith, true≢false}
 use Rattle.std.specs.Prelude.{slice_index_or, nat_lt}
 use Rattle.std.proofs.lemmas.Bool.Decides.{Decides-eqb, Decides-ltb}
 use Rattle.plan_dag.specs.Orders.{has, firsts}
-use Rattle.table_ops.specs.Columns.{rows_at}
 use Rattle.table_ops.specs.Keys.{InTurn, TellsFrom, new_places}
-use Rattle.table_ops.proofs.Keying.{alike}
 
 -- the keys of what was seen, the last first
 pub CountsDown : List ℕ → Type 0

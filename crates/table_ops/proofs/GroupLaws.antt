@@ -1,22 +1,18 @@
 -- The first rows and the counts of groups by keys.
-use Rattle.std.proofs.Common.{◌≡◌, ◌<◌, ◌≤◌, ◌+◌, ◌++◌, ◌∙◌, ◌||◌, ◌&&◌, ℕ, zero, suc, Bool, true, false, cond, not, List, [], ◌∷◌, length, map, nat_eq, replicate, refl, ap, sym, subst, arith, true≢false, if◌then◌else◌}
-use Rattle.std.specs.Prelude.{slice_index_or}
-use Rattle.std.specs.List.{filter, list_any}
+use Rattle.std.proofs.Common.{◌≡◌, ◌<◌, ◌≤◌, ◌∙◌, ◌&&◌, ℕ, suc, Bool, true, false, cond, List, [], ◌∷◌, length, map, nat_eq, replicate, refl, ap, sym, subst, arith, true≢false}
 use Rattle.std.proofs.lemmas.Bool.Decides.{Decides-eqb}
-use Rattle.indexmap.specs.IndexSet.{insert_key, insert_all}
+use Rattle.indexmap.specs.IndexSet.{insert_all}
 use Rattle.xq_base.specs.declared.item.Item.{Item}
 use Rattle.plan_dag.specs.declared.cols.Col.{Col}
 use Rattle.plan_dag.specs.Meaning.{cell_or, cells}
-use Rattle.plan_dag.specs.Orders.{has, firsts}
-use Rattle.plan_dag.specs.Rows.{all_same, first_rows, group_rows, count_rows, num}
-use Rattle.table_ops.specs.Chains.{AllBelow}
-use Rattle.table_ops.specs.Columns.{rows_at, rows_beside, single_rows, cells_at, cells_of, no_cell, AllWithin, numbers_from}
-use Rattle.table_ops.specs.Groups.{paired, both_eq, refined, keys_by, counts_of}
+use Rattle.plan_dag.specs.Rows.{all_same, first_rows}
+use Rattle.table_ops.specs.Columns.{rows_at, cells_at, cells_of, no_cell, AllWithin}
+use Rattle.table_ops.specs.Groups.{paired, both_eq, keys_by}
 use Rattle.table_ops.specs.Held.{kept}
 use Rattle.table_ops.specs.Keys.{item_eq, place_in, keys_from, TellsFrom, InTurn, new_places}
 use Rattle.table_ops.proofs.FirstRows.{first_rows_are}
 use Rattle.table_ops.proofs.ItemEqual.{item_same, item_self}
-use Rattle.table_ops.proofs.Keying.{alike, keys_are, all_there, tells, tells_rows, in_turn, keys_below, there_is}
+use Rattle.table_ops.proofs.Keying.{keys_are, all_there, tells, tells_rows, in_turn}
 use Rattle.table_ops.proofs.Selecting.{new_within}
 
 map_long : {X Y : Type 0} (f : X → Y) (xs : List X) → length (map f xs) ≡ length xs

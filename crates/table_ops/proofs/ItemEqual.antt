@@ -1,5 +1,5 @@
 -- Kept cells that are found equal are equal.
-use Rattle.std.proofs.Common.{◌≡◌, Bool, true, false, ◌&&◌, nat_eq, refl, ap, sym, true≢false}
+use Rattle.std.proofs.Common.{◌≡◌, true, ◌&&◌, nat_eq, ap, sym, true≢false}
 use Rattle.std.specs.Cmp.{unsigned_Decides, booleans_Decides}
 use Rattle.std.proofs.lemmas.Bool.Decides.{Decides-int_eq}
 use Rattle.xq_base.specs.declared.item.TextId.{TextId}

@@ -1,7 +1,6 @@
 -- Pairs and lone places by keys are those by cells, and give the rows of a join and a difference.
-use Rattle.std.proofs.Common.{◌≡◌, ◌<◌, ◌≤◌, ◌+◌, ◌++◌, ◌∙◌, ◌||◌, ℕ, zero, suc, Bool, true, false, cond, not, List, [], ◌∷◌, length, map, nat_eq, refl, ap, sym, subst, arith, true≢false, if◌then◌else◌}
-use Rattle.std.specs.Prelude.{slice_index_or, nat_lt}
-use Rattle.std.specs.List.{filter, flat_map, list_any}
+use Rattle.std.proofs.Common.{◌≡◌, ◌<◌, ◌≤◌, ◌+◌, ◌++◌, ◌∙◌, ◌||◌, ℕ, suc, Bool, true, false, cond, not, List, [], ◌∷◌, length, map, nat_eq, refl, ap, sym, subst, arith, if◌then◌else◌}
+use Rattle.std.specs.List.{filter, list_any}
 use Rattle.indexmap.specs.IndexSet.{insert_key, insert_all}
 use Rattle.xq_base.specs.declared.item.Item.{Item}
 use Rattle.plan_dag.specs.declared.cols.Col.{Col}
@@ -16,8 +15,8 @@ use Rattle.table_ops.specs.Picks.{is_at_least}
 use Rattle.table_ops.specs.Matches.{equal_pairs_from, lone_places}
 use Rattle.table_ops.proofs.Joining.{joined_by_places}
 use Rattle.table_ops.proofs.ItemEqual.{item_same, item_self}
-use Rattle.table_ops.proofs.Keying.{keys_are, all_there, AllThere, tells, tells_rows, keys_of, keys_below, place_le, there_is}
-use Rattle.table_ops.proofs.Selecting.{picked, within_from, lefts_within, rights_within, pairs_beside, places_many}
+use Rattle.table_ops.proofs.Keying.{keys_are, all_there, tells, tells_rows, keys_of, keys_below, place_le, there_is}
+use Rattle.table_ops.proofs.Selecting.{picked, within_from, lefts_within, rights_within, pairs_beside}
 
 map_long : {X Y : Type 0} (f : X → Y) (xs : List X) → length (map f xs) ≡ length xs
 map_long f [] = refl
@@ -161,12 +160,12 @@ module _ (lcols rcols : List Col) (a b : Col) where
       let T : List Item = table_of (cells_at rcols b rs) in
       pairs_beside ls rs (equal_pairs_from item_eq 0 (cells_at lcols a ls) (cells_at rcols b rs))
       ∙ ap (pair_rows ls rs)
-          (pairs_told item_eq (place_in item_eq T) (place_in item_eq T) 0 (cells_at lcols a ls) (cells_at rcols b rs) (told (cells_at rcols b rs))
-          ∙ (λ i. pairs_from 0 (maps (place_in item_eq T) (cell_or no_cell lcols a) ls i) (maps (place_in item_eq T) (cell_or no_cell rcols b) rs i)))
+      (pairs_told item_eq (place_in item_eq T) (place_in item_eq T) 0 (cells_at lcols a ls) (cells_at rcols b rs) (told (cells_at rcols b rs))
+      ∙ (λ i. pairs_from 0 (maps (place_in item_eq T) (cell_or no_cell lcols a) ls i) (maps (place_in item_eq T) (cell_or no_cell rcols b) rs i)))
       ∙ joined_by_places (λ l r. item_eq (cell_or no_cell lcols a l) (cell_or no_cell rcols b r)) [] ls rs
-          (map (λ l. place_in item_eq T (cell_or no_cell lcols a l)) ls) (map (λ r. place_in item_eq T (cell_or no_cell rcols b r)) rs)
-          (keys_of (λ l r. item_eq (cell_or no_cell lcols a l) (cell_or no_cell rcols b r)) (λ l. place_in item_eq T (cell_or no_cell lcols a l)) (λ r. place_in item_eq T (cell_or no_cell rcols b r)) ls rs
-          (tells_rows item_eq (place_in item_eq T) (place_in item_eq T) (cell_or no_cell lcols a) (cell_or no_cell rcols b) rs (told (cells_at rcols b rs))))
+      (map (λ l. place_in item_eq T (cell_or no_cell lcols a l)) ls) (map (λ r. place_in item_eq T (cell_or no_cell rcols b r)) rs)
+      (keys_of (λ l r. item_eq (cell_or no_cell lcols a l) (cell_or no_cell rcols b r)) (λ l. place_in item_eq T (cell_or no_cell lcols a l)) (λ r. place_in item_eq T (cell_or no_cell rcols b r)) ls rs
+      (tells_rows item_eq (place_in item_eq T) (place_in item_eq T) (cell_or no_cell lcols a) (cell_or no_cell rcols b) rs (told (cells_at rcols b rs))))
 
   pub join_left_within : (ls rs : List (List Item)) → AllWithin (length ls) (map (λ p. p.0) (equal_pairs_from item_eq 0 (cells_at lcols a ls) (cells_at rcols b rs)))
   join_left_within ls rs =

@@ -1,10 +1,10 @@
 -- What the operators' steps make together.
-use Rattle.std.proofs.Common.{◌≡◌, ◌<◌, ◌≤◌, ◌+◌, ◌++◌, ◌∷◌, [], ◌∙◌, ℕ, List, length, map, refl, ap, sym, subst, arith, Result, IfOk}
+use Rattle.std.proofs.Common.{◌≡◌, ◌<◌, ◌+◌, ◌++◌, ◌∙◌, ℕ, List, length, map, ap, sym, subst, Result, IfOk}
 use Rattle.xq_base.specs.declared.item.Item.{Item}
 use Rattle.plan_dag.specs.declared.cols.Col.{Col}
 use Rattle.plan_dag.specs.Meaning.{Table, cell_or}
-use Rattle.plan_dag.specs.Rows.{joined, left_over, first_rows, count_rows}
-use Rattle.table_ops.specs.Columns.{rows_at, rows_beside, cells_at, no_cell, AllWithin, cells_of, single_rows}
+use Rattle.plan_dag.specs.Rows.{joined, left_over, first_rows}
+use Rattle.table_ops.specs.Columns.{rows_at, rows_beside, cells_at, no_cell, AllWithin, cells_of}
 use Rattle.table_ops.specs.Groups.{keys_by}
 use Rattle.table_ops.specs.Held.{kept}
 use Rattle.table_ops.specs.Keys.{item_eq, new_places}

@@ -1,5 +1,5 @@
 -- A constant beside each row.
-use Rattle.std.proofs.Common.{◌≡◌, ◌<◌, ◌+◌, ◌++◌, ◌∙◌, ℕ, suc, List, [], ◌∷◌, length, map, replicate, refl, ap, sym, arith, Result, IfOk}
+use Rattle.std.proofs.Common.{◌≡◌, ◌<◌, ◌+◌, ◌++◌, ◌∙◌, ℕ, List, [], ◌∷◌, length, map, replicate, refl, ap, sym, arith, Result, IfOk}
 use Rattle.xq_base.specs.declared.item.Item.{Item}
 use Rattle.xq_base.specs.declared.item.Atom.{Atom}
 use Rattle.plan_dag.specs.declared.cols.Col.{Col}

@@ -1,5 +1,5 @@
 -- Places by key, one key's behind the other's (own rule).
-use Rattle.std.specs.Prelude.{ℕ, zero, ◌≡◌, ◌<◌, ◌≤◌, ◌-◌, List, [], ◌∷◌, length, map, take, drop, nat_eq, slice_index_or}
+use Rattle.std.specs.Prelude.{ℕ, ◌≡◌, ◌<◌, ◌≤◌, ◌-◌, List, length, map, take, drop, nat_eq, slice_index_or}
 use Rattle.xq_base.specs.declared.item.Item.{Item}
 use Rattle.table_ops.specs.Chains.{places_of, AllBelow}
 use Rattle.table_ops.specs.Columns.{no_cell}

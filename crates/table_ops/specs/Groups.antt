@@ -1,5 +1,5 @@
 -- Keys by several columns, and how often each comes (own rule).
-use Rattle.std.specs.Prelude.{ℕ, zero, suc, Bool, ◌&&◌, List, [], ◌∷◌, length, map, nat_eq, replicate}
+use Rattle.std.specs.Prelude.{ℕ, Bool, ◌&&◌, List, [], ◌∷◌, length, map, nat_eq, replicate}
 use Rattle.std.specs.List.{filter}
 use Rattle.xq_base.specs.declared.item.Item.{Item}
 use Rattle.plan_dag.specs.declared.cols.Col.{Col}

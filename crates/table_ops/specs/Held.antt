@@ -1,6 +1,6 @@
 -- What tables need of the cells that are kept: items whose texts are numbers of a pool and whose nodes
 -- are references (own rule). What makes texts or nodes isn't said over these cells.
-use Rattle.std.specs.Prelude.{ℕ, ℤ, Bool, true, false, not, ◌&&◌, ◌||◌, List, [], Option, Some, None, nat_lt, int_lt}
+use Rattle.std.specs.Prelude.{ℕ, ℤ, Bool, false, not, ◌&&◌, ◌||◌, List, [], Option, Some, None, nat_lt, int_lt}
 use Rattle.xq_base.specs.declared.item.Item.{Item}
 use Rattle.xq_base.specs.declared.item.Item.TheVariants as i
 use Rattle.xq_base.specs.declared.item.Atom.{Atom as Constant}

@@ -1,6 +1,6 @@
 -- Values as small numbers, equal exactly where the values are: each value's place among the different
 -- ones up to it (own rule).
-use Rattle.std.specs.Prelude.{ℕ, zero, suc, ◌≡◌, ◌≤◌, Bool, true, false, cond, List, [], ◌∷◌, map, nat_eq}
+use Rattle.std.specs.Prelude.{ℕ, suc, ◌≡◌, ◌≤◌, Bool, cond, List, [], ◌∷◌, nat_eq}
 use Rattle.std.specs.List.{position_or_len}
 use Rattle.indexmap.specs.IndexSet.{insert_key}
 use Rattle.xq_base.specs.declared.item.Item.{Item}

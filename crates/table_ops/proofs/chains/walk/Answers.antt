@@ -1,4 +1,4 @@
-use Rattle.std.proofs.Common.{◌≡◌, ◌++◌, ◌∷◌, [], ℕ, List, refl, sym, ap, ◌∙◌}
+use Rattle.std.proofs.Common.{◌≡◌, ◌++◌, ◌∷◌, [], refl, sym, ap, ◌∙◌}
 use Rattle.table_ops.proofs.Chaining.{after_push, linked_once, joined_to, to_nothing}
 use Rattle.table_ops.proofs.chains.walk.Goals as goal
 

@@ -1,4 +1,4 @@
-use Rattle.std.proofs.Common.{◌≡◌, ◌∙◌, ◌^◌}
+use Rattle.std.proofs.Common.{◌∙◌, ◌^◌}
 use Rattle.table_ops.proofs.GroupLaws.{keys_few, keys_match}
 use Rattle.table_ops.proofs.grouping.+keys_of.Goals as goal
 

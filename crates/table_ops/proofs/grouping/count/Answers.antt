@@ -1,4 +1,4 @@
-use Rattle.std.proofs.Common.{◌≡◌, ◌∙◌, ◌^◌, ap, map, subst, sym}
+use Rattle.std.proofs.Common.{◌∙◌, ◌^◌, ap, map, subst, sym}
 use Rattle.plan_dag.specs.Rows.{num}
 use Rattle.table_ops.specs.Chains.{AllBelow}
 use Rattle.table_ops.specs.Groups.{counts_of}

@@ -1,4 +1,4 @@
-use Rattle.std.proofs.Common.{◌≡◌, ◌∙◌, ◌^◌, ap}
+use Rattle.std.proofs.Common.{◌∙◌, ◌^◌, ap}
 use Rattle.table_ops.specs.Groups.{keys_by}
 use Rattle.table_ops.proofs.GroupLaws.{keys_few}
 use Rattle.table_ops.proofs.OperatorLaws.{distinct_left, distinct_whole}

@@ -1,4 +1,4 @@
-use Rattle.std.proofs.Common.{◌≡◌, ◌∙◌}
+use Rattle.std.proofs.Common.{◌∙◌}
 use Rattle.table_ops.proofs.Keying.{absent_place}
 use Rattle.table_ops.proofs.keys.place.Goals as goal
 

@@ -1,4 +1,4 @@
-use Rattle.std.proofs.Common.{◌≡◌, ◌∙◌, ◌^◌}
+use Rattle.std.proofs.Common.{◌∙◌, ◌^◌}
 use Rattle.table_ops.proofs.Selecting.{few_cells}
 use Rattle.table_ops.proofs.OperatorLaws.{difference_left, difference_whole}
 use Rattle.table_ops.proofs.matching.difference.Goals as goal

@@ -1,4 +1,4 @@
-use Rattle.std.proofs.Common.{◌≡◌, ◌∙◌, ◌^◌, ap, map}
+use Rattle.std.proofs.Common.{◌∙◌, ◌^◌, ap, map}
 use Rattle.table_ops.specs.Chains.{pairs_from}
 use Rattle.table_ops.specs.Keys.{item_eq, place_in}
 use Rattle.table_ops.proofs.MatchLaws.{table_few, keys_few, chains_below, looked_below, pairs_by_keys}

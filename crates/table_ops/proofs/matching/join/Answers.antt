@@ -1,4 +1,4 @@
-use Rattle.std.proofs.Common.{◌≡◌, ◌∙◌, ◌^◌, ap, map}
+use Rattle.std.proofs.Common.{◌∙◌, ◌^◌, ap, map}
 use Rattle.table_ops.proofs.Selecting.{few_cells}
 use Rattle.table_ops.proofs.OperatorLaws.{join_left, join_right, join_few, join_high, join_whole}
 use Rattle.table_ops.proofs.matching.join.Goals as goal

@@ -1,4 +1,4 @@
-use Rattle.std.proofs.Common.{◌≡◌, ◌∙◌, ◌^◌, List, length, ap, map}
+use Rattle.std.proofs.Common.{◌∙◌, ◌^◌, List, length, ap, map}
 use Rattle.table_ops.specs.Chains.{places_of}
 use Rattle.table_ops.specs.Keys.{item_eq, place_in}
 use Rattle.table_ops.specs.Picks.{is_at_least}

@@ -1,7 +1,3 @@
-use Rattle.std.proofs.Common.{ap, sym, subst, ◌∙◌, ◌≡◌, ◌<◌, ◌+◌, ◌∷◌, [], map, length, replicate, arith}
-use Rattle.plan_dag.specs.Meaning.{Table as Rows}
-use Rattle.xq_base.specs.declared.item.Item.{Item}
-use Rattle.table_ops.specs.Columns.{single_rows}
 use Rattle.table_ops.proofs.PlainLaws.{attach_need, attach_whole}
 use Rattle.table_ops.proofs.plain.attach.Goals as goal
 

@@ -1,4 +1,4 @@
-use Rattle.std.proofs.Common.{List, ap, sym, subst, ◌∙◌, ◌≡◌, true, map, length}
+use Rattle.std.proofs.Common.{List, ap, sym, ◌∙◌, map, length}
 use Rattle.plan_dag.specs.Schema.{has_cols}
 use Rattle.table_ops.specs.Columns.{cells_of}
 use Rattle.table_ops.proofs.Combining.{if_ok_is, whole}

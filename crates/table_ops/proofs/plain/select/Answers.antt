@@ -1,4 +1,4 @@
-use Rattle.std.proofs.Common.{List, ap, sym, subst, ◌∙◌, ◌≡◌, ◌<◌, length, arith}
+use Rattle.std.proofs.Common.{List, ap, sym, subst, ◌∙◌, ◌<◌, length}
 use Rattle.table_ops.specs.Chains.{places_of}
 use Rattle.table_ops.specs.Picks.{is_true_item}
 use Rattle.table_ops.specs.Columns.{rows_at, AllWithin}

@@ -1,4 +1,4 @@
-use Rattle.std.proofs.Common.{List, ap, sym, subst, ◌∙◌, ◌≡◌, ◌++◌, map, length}
+use Rattle.std.proofs.Common.{List, ap, sym, ◌∙◌, ◌++◌, map, length}
 use Rattle.plan_dag.specs.Meaning.{Table as Rows}
 use Rattle.plan_dag.specs.Schema.{has_cols}
 use Rattle.xq_base.specs.declared.item.Item.{Item}

@@ -1,4 +1,4 @@
-use Rattle.std.proofs.Common.{◌≡◌, ◌∙◌, ◌^◌, ap, subst, sym, length}
+use Rattle.std.proofs.Common.{◌∙◌, ◌^◌, subst, sym, length}
 use Rattle.table_ops.specs.Chains.{AllBelow}
 use Rattle.table_ops.specs.Filed.{AreFiled}
 use Rattle.table_ops.proofs.MatchLaws.{keys_few}

@@ -1,4 +1,4 @@
-use Rattle.std.proofs.Common.{◌≡◌, ◌≤◌, ◌<◌, ◌-◌, ◌∙◌, ap, sym, subst, length, take, drop, arith}
+use Rattle.std.proofs.Common.{◌≡◌, ◌<◌, ◌-◌, ◌∙◌, ap, sym, subst, length, take, drop, arith}
 use Rattle.table_ops.specs.Chains.{places_of}
 use Rattle.table_ops.specs.Filed.{span_at}
 use Rattle.table_ops.specs.Keys.{item_eq, place_in}

@@ -1,4 +1,4 @@
-use Rattle.std.proofs.Common.{ap, ◌∙◌, ◌≡◌, ◌++◌, []}
+use Rattle.std.proofs.Common.{ap, ◌∙◌, ◌++◌}
 use Rattle.table_ops.specs.Columns.{cells_in}
 use Rattle.table_ops.proofs.Combining.{beside_need, beside_whole}
 use Rattle.table_ops.proofs.table.Table.beside.Goals as goal

@@ -1,4 +1,4 @@
-use Rattle.std.proofs.Common.{ap, ◌∙◌, map, subst, sym}
+use Rattle.std.proofs.Common.{ap, ◌∙◌, map}
 use Rattle.plan_dag.specs.Schema.{has_cols}
 use Rattle.plan_dag.specs.Meaning.{Table as Rows}
 use Rattle.xq_base.specs.declared.item.Item.{Item}

@@ -1,4 +1,4 @@
-use Rattle.std.proofs.Common.{◌≡◌, ◌+◌, ◌∙◌, ◌++◌, length, take, drop, rules, arith}
+use Rattle.std.proofs.Common.{◌≡◌, length, rules, arith}
 use Rattle.table_ops.proofs.Combining.{written, push_whole, unpushed_whole, on_err}
 use Rattle.table_ops.proofs.table.Table.push.Goals as goal
 

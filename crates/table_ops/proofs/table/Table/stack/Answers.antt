@@ -1,4 +1,4 @@
-use Rattle.std.proofs.Common.{◌≡◌, ◌+◌, ◌∙◌, arith}
+use Rattle.std.proofs.Common.{◌∙◌, arith}
 use Rattle.table_ops.specs.Columns.{heads, zipped}
 use Rattle.table_ops.proofs.Combining.{stack_need, stack_whole}
 use Rattle.table_ops.proofs.table.Table.stack.Goals as goal
