@@ -1,0 +1,16 @@
+pub mod Chaining
+pub mod Columning
+pub mod Combining
+pub mod CountLaws
+pub mod FiledLaws
+pub mod FirstRows
+pub mod GroupLaws
+pub mod ItemEqual
+pub mod Joining
+pub mod Keying
+pub mod MatchLaws
+pub mod OperatorLaws
+pub mod PlainLaws
+pub mod Rowing
+pub mod Selecting
+pub mod TallyLaws
