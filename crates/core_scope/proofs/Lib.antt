@@ -2,3 +2,4 @@ pub mod WorkedRefusals
 pub mod WorkedResolving
 pub mod Certificates
 pub mod WorkedGraphs
+pub mod Naming
