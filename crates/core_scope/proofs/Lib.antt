@@ -3,3 +3,4 @@ pub mod WorkedResolving
 pub mod Certificates
 pub mod WorkedGraphs
 pub mod Naming
+pub mod Digits

@@ -56,7 +56,7 @@ pub record Signature : Type 0 where
 abbrev pub behind : Text → Text → Text → Text
 behind [] cs whole = cs
 behind (p ∷ ps) [] whole = whole
-behind (p ∷ ps) (c ∷ cs) whole = cond (nat_eq p c) (behind ps cs whole) whole
+behind (p ∷ ps) (c ∷ cs) whole = cond (nat_eq c p) (behind ps cs whole) whole
 
 -- `fn:n` is `n`
 abbrev pub plain_name : Text → Text

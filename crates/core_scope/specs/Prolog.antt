@@ -5,7 +5,8 @@ use Rattle.xq_base.specs.Texts.{Text, text_eq}
 use Rattle.core_scope.specs.Syn.{Params, Declaration, Query, read, resolved, how_many_params}
 use Rattle.core_scope.specs.Syn as s
 use Rattle.core_scope.specs.Names.{Scope, no_names, with_local, with_global, Signature, plain_name, is_taken, is_among}
-use Rattle.core_scope.specs.Walk.{Refusal, refused, Facts, nothing, ◌with◌, amiss_where, bind_type_facts, walk}
+use Rattle.core_scope.specs.declared.refusal.Refusal.{Refusal}
+use Rattle.core_scope.specs.Walk.{refused, Facts, nothing, ◌with◌, amiss_where, bind_type_facts, walk}
 use Rattle.core_scope.specs.Resolving.{resolved_types, resolve}
 
 abbrev pub signature_of : Text → Params read → Signature

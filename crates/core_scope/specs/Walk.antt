@@ -13,16 +13,12 @@ use Rattle.xq_ast.specs.declared.leaf.ReadType.TheVariants as t
 use Rattle.xq_ast.specs.declared.leaf.ReadItem.{ReadItem}
 use Rattle.xq_ast.specs.declared.leaf.ReadItem.TheVariants as i
 use Rattle.core_scope.specs.declared.names.Visible.{Visible}
+use Rattle.core_scope.specs.declared.refusal.Refusal.{Refusal}
 use Rattle.core_scope.specs.Syn.{Syn, Syns, Maybe, Binds, Keys, BuildName, Attributes, Values, Parts, read, how_many}
 use Rattle.core_scope.specs.Syn as s
 use Rattle.core_scope.specs.TypeNames.{atom_kind, item_named, cast_code}
 use Rattle.core_scope.specs.Literals.{is_wide}
 use Rattle.core_scope.specs.Names.{Scope, with_local, behind_for, behind_binds, Signature, function_of, is_there, is_among}
-
--- a code and the place where it stands
-pub record Refusal : Type 0 where
-  pub code : Code
-  pub offset : ℕ
 
 abbrev pub refused : Code → ℕ → Refusal
 refused c o = record { code = c; offset = o }
