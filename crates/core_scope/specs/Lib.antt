@@ -5,6 +5,7 @@ pub mod BuiltIns
 pub mod TypeNames
 pub mod Literals
 pub mod Names
+pub mod Held
 pub mod Walk
 pub mod Resolving
 pub mod Prolog

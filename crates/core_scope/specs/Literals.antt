@@ -1,5 +1,5 @@
 -- Integers, and what stands for itself in direct constructors (XQuery 1.0, sections 3.1.1 and 3.7.1).
-use Rattle.std.specs.Prelude.{ℕ, ◌+◌, ◌-◌, ◌*◌, ◌^◌, ℤ, pos, Bool, true, false, ◌&&◌, ◌||◌, cond, List, [], ◌∷◌, ◌++◌, map, nat_eq, nat_le}
+use Rattle.std.specs.Prelude.{ℕ, ◌+◌, ◌-◌, ◌*◌, ◌^◌, ℤ, pos, Bool, true, false, ◌&&◌, ◌||◌, cond, List, [], ◌∷◌, ◌++◌, map, Option, Some, None, nat_eq, nat_le}
 use Rattle.std.specs.List.{list_all}
 use Rattle.xq_base.specs.Texts.{Text, is_space}
 use Rattle.xq_ast.specs.declared.leaf.ContentRun.{ContentRun}
@@ -22,6 +22,10 @@ is_wide ds = nat_le (2 ^ 63) (number_of ds)
 -- the integer of digits that aren't refused
 abbrev pub integer_of : Text → ℤ
 integer_of ds = cond (is_wide ds) (pos 0) (pos (number_of ds))
+
+-- the integer of digits, if it isn't beyond
+abbrev pub integer_in : Text → Option ℤ
+integer_in ds = cond (is_wide ds) None (Some (pos (number_of ds)))
 
 -- what a piece of content stands for (section 3.7.1.3)
 abbrev pub content_text : ContentRun → Text

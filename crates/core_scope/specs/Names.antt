@@ -5,30 +5,28 @@ use Rattle.xq_base.specs.declared.fun.Fun.{Fun}
 use Rattle.xq_base.specs.Texts.{Text, text_eq}
 use Rattle.xq_ast.specs.declared.leaf.Callee.{Callee}
 use Rattle.xq_ast.specs.declared.leaf.Callee.TheVariants as callee
+use Rattle.core_scope.specs.declared.names.Visible.{Visible}
 use Rattle.core_scope.specs.Syn.{Binds, read}
 use Rattle.core_scope.specs.Syn as s
 use Rattle.core_scope.specs.BuiltIns.{built_in}
 
--- a visible variable: its name, the place of the "$" that binds it, and its number, if it is one of the prolog's
-pub record Visible : Type 0 where
-  pub name : Text
-  pub place : ℕ
-  pub number : Option ℕ
-
--- the visible variables, the innermost first
+-- the variable that each name stands for, if it stands for one
 abbrev pub Scope : Type 0
-Scope = List Visible
+Scope = Text → Option Visible
 
-abbrev pub local : ℕ → Text → Visible
-local o x = record { name = x; place = o; number = None }
+abbrev pub no_names : Scope
+no_names x = None
 
-abbrev pub global : ℕ → Text → ℕ → Visible
-global o x j = record { name = x; place = o; number = Some j }
+-- a name stands for this from here on: an inner variable hides an outer one
+abbrev pub with_name : Text → Option Visible → Scope → Scope
+with_name x v sc y = cond (text_eq x y) v (sc y)
 
--- the variable of this name: an inner one hides an outer one
-abbrev pub seen : Scope → Text → Option Visible
-seen [] x = None
-seen (v ∷ vs) x = cond (text_eq v.name x) (Some v) (seen vs x)
+-- a variable, and the one of this number in the prolog, each with the place of its "$"
+abbrev pub with_local : ℕ → Text → Scope → Scope
+with_local o x sc = with_name x (Some (record { place = o; number = None })) sc
+
+abbrev pub with_global : ℕ → Text → ℕ → Scope → Scope
+with_global o x j sc = with_name x (Some (record { place = o; number = Some j })) sc
 
 -- the place of a variable's binding; 0 where there is none, which is refused
 abbrev pub place_in : Option Visible → ℕ
@@ -38,16 +36,16 @@ place_in (Some v) = v.place
 -- with the variable of a position, if there is one
 abbrev pub with_position : Option (ℕ × Text) → Scope → Scope
 with_position None sc = sc
-with_position (Some v) sc = local v.0 v.1 ∷ sc
+with_position (Some v) sc = with_local v.0 v.1 sc
 
 -- the variables that are visible behind a bind of a loop, and behind binds
 abbrev pub behind_for : ℕ → Text → Option (ℕ × Text) → Scope → Scope
-behind_for o x at sc = local o x ∷ with_position at sc
+behind_for o x at sc = with_local o x (with_position at sc)
 
 abbrev pub behind_binds : Binds read → Scope → Scope
 behind_binds s.no_binds sc = sc
 behind_binds (s.for_bind o x ty at e bs) sc = behind_binds bs (behind_for o x at sc)
-behind_binds (s.let_bind o x ty e bs) sc = behind_binds bs (local o x ∷ sc)
+behind_binds (s.let_bind o x ty e bs) sc = behind_binds bs (with_local o x sc)
 
 -- a declared function: its name without `fn:`, and the number of its parameters
 pub record Signature : Type 0 where
@@ -58,7 +56,7 @@ pub record Signature : Type 0 where
 abbrev pub behind : Text → Text → Text → Text
 behind [] cs whole = cs
 behind (p ∷ ps) [] whole = whole
-behind (p ∷ ps) (c ∷ cs) whole = cond (nat_eq p c) (behind ps cs whole) whole
+behind (p ∷ ps) (c ∷ cs) whole = cond (nat_eq c p) (behind ps cs whole) whole
 
 -- `fn:n` is `n`
 abbrev pub plain_name : Text → Text

@@ -4,8 +4,9 @@ use Rattle.xq_base.specs.declared.code.Code.TheVariants as code
 use Rattle.xq_base.specs.Texts.{Text, text_eq}
 use Rattle.core_scope.specs.Syn.{Params, Declaration, Query, read, resolved, how_many_params}
 use Rattle.core_scope.specs.Syn as s
-use Rattle.core_scope.specs.Names.{Scope, local, global, Signature, plain_name, is_taken, is_among}
-use Rattle.core_scope.specs.Walk.{Refusal, refused, Facts, nothing, ◌with◌, amiss_where, bind_type_facts, walk}
+use Rattle.core_scope.specs.Names.{Scope, no_names, with_local, with_global, Signature, plain_name, is_taken, is_among}
+use Rattle.core_scope.specs.declared.refusal.Refusal.{Refusal}
+use Rattle.core_scope.specs.Walk.{refused, Facts, nothing, ◌with◌, amiss_where, bind_type_facts, walk}
 use Rattle.core_scope.specs.Resolving.{resolved_types, resolve}
 
 abbrev pub signature_of : Text → Params read → Signature
@@ -20,7 +21,7 @@ signatures (s.function o at n ps ty e ∷ ds) = signature_of n ps ∷ signatures
 -- a function's parameters are visible in its body
 abbrev pub with_params : Params read → Scope → Scope
 with_params s.no_params sc = sc
-with_params (s.param o x ty ps) sc = with_params ps (local o x ∷ sc)
+with_params (s.param o x ty ps) sc = with_params ps (with_local o x sc)
 
 -- a parameter that repeats one before it is XQST0039 at its "$"
 abbrev pub param_facts : Params read → List Text → Facts
@@ -46,7 +47,7 @@ module _ (fs : List Signature) where
       ∷ told ds (before ++ signature_of n ps ∷ []) names j sc
   told (s.variable o at x ty e ∷ ds) before names j sc =
       of_variable j (amiss_where (is_among names x) code.XQST0049 at with bind_type_facts ty with walk fs e sc)
-      ∷ told ds before (x ∷ names) (suc j) (global at x j ∷ sc)
+      ∷ told ds before (x ∷ names) (suc j) (with_global at x j sc)
 
   -- the resolved declarations
   abbrev pub resolved_params : Params read → Params resolved
@@ -58,22 +59,22 @@ module _ (fs : List Signature) where
   resolved_declarations (s.function o at n ps ty e ∷ ds) j sc =
       s.function o at n (resolved_params ps) (resolved_types ty) (resolve fs e (with_params ps sc)) ∷ resolved_declarations ds j sc
   resolved_declarations (s.variable o at x ty e ∷ ds) j sc =
-      s.variable o at at (resolved_types ty) (resolve fs e sc) ∷ resolved_declarations ds (suc j) (global at x j ∷ sc)
+      s.variable o at at (resolved_types ty) (resolve fs e sc) ∷ resolved_declarations ds (suc j) (with_global at x j sc)
 
 -- the prolog's variables are visible in the body
 abbrev pub behind_prolog : List (Declaration read) → ℕ → Scope → Scope
 behind_prolog [] j sc = sc
 behind_prolog (s.function o at n ps ty e ∷ ds) j sc = behind_prolog ds j sc
-behind_prolog (s.variable o at x ty e ∷ ds) j sc = behind_prolog ds (suc j) (global at x j ∷ sc)
+behind_prolog (s.variable o at x ty e ∷ ds) j sc = behind_prolog ds (suc j) (with_global at x j sc)
 
 abbrev pub functions_of : Query read → List Signature
 functions_of q = signatures q.declarations
 
 abbrev pub all_told : Query read → List Told
-all_told q = told (functions_of q) q.declarations [] [] 0 []
+all_told q = told (functions_of q) q.declarations [] [] 0 no_names
 
 abbrev pub body_facts : Query read → Facts
-body_facts q = walk (functions_of q) q.body (behind_prolog q.declarations 0 [])
+body_facts q = walk (functions_of q) q.body (behind_prolog q.declarations 0 no_names)
 
 -- a version other than 1.0 is XQST0031 at its string
 abbrev pub version_refusals : Option (ℕ × Text) → List Refusal
@@ -100,6 +101,6 @@ resolved_query q =
     record {
       version = q.version;
       setters = q.setters;
-      declarations = resolved_declarations (functions_of q) q.declarations 0 [];
-      body = resolve (functions_of q) q.body (behind_prolog q.declarations 0 []);
+      declarations = resolved_declarations (functions_of q) q.declarations 0 no_names;
+      body = resolve (functions_of q) q.body (behind_prolog q.declarations 0 no_names);
     }

@@ -3,7 +3,8 @@ use Rattle.std.specs.Prelude.{◌≡◌, ℕ, zero, suc, ◌<◌, ◌≤◌, Boo
 use Rattle.xq_base.specs.declared.code.Code.{Code}
 use Rattle.xq_base.specs.declared.code.Code.TheVariants as code
 use Rattle.core_scope.specs.Syn.{Query, read, resolved}
-use Rattle.core_scope.specs.Walk.{Refusal, refused, DeclaredCall, Facts, nothing}
+use Rattle.core_scope.specs.declared.refusal.Refusal.{Refusal}
+use Rattle.core_scope.specs.Walk.{refused, DeclaredCall, Facts, nothing}
 use Rattle.core_scope.specs.Prolog.{Told, of_function, of_variable, all_told, local_refusals, resolved_query}
 
 -- the declared functions with the places of their `declare`, and what is told of each
@@ -87,14 +88,18 @@ rank _ = 13
 abbrev pub is_before : Refusal → Refusal → Bool
 is_before a b = nat_lt a.offset b.offset || (nat_eq a.offset b.offset && nat_lt (rank a.code) (rank b.code))
 
--- the first of some refusals
+-- the first of a refusal and of the one before it
 abbrev pub earlier : Refusal → Option Refusal → Refusal
 earlier a None = a
 earlier a (Some b) = cond (is_before b a) b a
 
+-- among these and the one before them
+abbrev pub first_from : Option Refusal → List Refusal → Option Refusal
+first_from kept [] = kept
+first_from kept (r ∷ rs) = first_from (Some (earlier r kept)) rs
+
 abbrev pub first_of : List Refusal → Option Refusal
-first_of [] = None
-first_of (r ∷ rs) = Some (earlier r (first_of rs))
+first_of rs = first_from None rs
 
 -- a refusal before which none stands
 pub record IsFirst (q : Query read) (r : Refusal) : Type 0 where

@@ -17,7 +17,7 @@ use Rattle.core_scope.specs.Erasure.{kind_test_of}
 use Rattle.core_scope.specs.Leaves.{occurs_of}
 use Rattle.core_scope.specs.TypeNames.{atom_kind, item_named}
 use Rattle.core_scope.specs.Literals.{integer_of, content_text, is_white_piece, value_text}
-use Rattle.core_scope.specs.Names.{Scope, local, seen, place_in, behind_for, behind_binds, Signature, function_of}
+use Rattle.core_scope.specs.Names.{Scope, with_local, place_in, behind_for, behind_binds, Signature, function_of}
 
 abbrev pub callee_or_first : Option Callee → Callee
 callee_or_first None = callee.Declared 0
@@ -79,7 +79,7 @@ module _ (fs : List Signature) where
     resolve (s.filtered o a qs) sc = s.filtered o (resolve a sc) (resolve_all qs sc)
     resolve (s.integer o n) sc = s.integer o (integer_of n)
     resolve (s.text o x) sc = s.text o x
-    resolve (s.var o x) sc = s.var o (place_in (seen sc x))
+    resolve (s.var o x) sc = s.var o (place_in (sc x))
     resolve (s.paren o e) sc = s.paren o (resolve_maybe e sc)
     resolve (s.dot o) sc = s.dot o
     resolve (s.call o f es) sc = s.call o (callee_or_first (function_of fs f (how_many es))) (resolve_all es sc)
@@ -100,7 +100,7 @@ module _ (fs : List Signature) where
     resolve_binds s.no_binds sc = s.no_binds
     resolve_binds (s.for_bind o x ty at e bs) sc =
         s.for_bind o o (resolved_types ty) (resolved_position at) (resolve e sc) (resolve_binds bs (behind_for o x at sc))
-    resolve_binds (s.let_bind o x ty e bs) sc = s.let_bind o o (resolved_types ty) (resolve e sc) (resolve_binds bs (local o x ∷ sc))
+    resolve_binds (s.let_bind o x ty e bs) sc = s.let_bind o o (resolved_types ty) (resolve e sc) (resolve_binds bs (with_local o x sc))
 
     pub resolve_keys : Keys read → Scope → Keys resolved
     resolve_keys s.no_keys sc = s.no_keys

@@ -12,16 +12,13 @@ use Rattle.xq_ast.specs.declared.leaf.ReadType.{ReadType}
 use Rattle.xq_ast.specs.declared.leaf.ReadType.TheVariants as t
 use Rattle.xq_ast.specs.declared.leaf.ReadItem.{ReadItem}
 use Rattle.xq_ast.specs.declared.leaf.ReadItem.TheVariants as i
+use Rattle.core_scope.specs.declared.names.Visible.{Visible}
+use Rattle.core_scope.specs.declared.refusal.Refusal.{Refusal}
 use Rattle.core_scope.specs.Syn.{Syn, Syns, Maybe, Binds, Keys, BuildName, Attributes, Values, Parts, read, how_many}
 use Rattle.core_scope.specs.Syn as s
 use Rattle.core_scope.specs.TypeNames.{atom_kind, item_named, cast_code}
 use Rattle.core_scope.specs.Literals.{is_wide}
-use Rattle.core_scope.specs.Names.{Visible, Scope, local, seen, behind_for, behind_binds, Signature, function_of, is_there, is_among}
-
--- a code and the place where it stands
-pub record Refusal : Type 0 where
-  pub code : Code
-  pub offset : ℕ
+use Rattle.core_scope.specs.Names.{Scope, with_local, behind_for, behind_binds, Signature, function_of, is_there, is_among}
 
 abbrev pub refused : Code → ℕ → Refusal
 refused c o = record { code = c; offset = o }
@@ -109,7 +106,7 @@ module _ (fs : List Signature) where
     -- an integer that is too wide is FOAR0002 (section 3.1.1)
     walk (s.integer o n) sc = amiss_where (is_wide n) code.FOAR0002 o
     walk (s.text o x) sc = nothing
-    walk (s.var o x) sc = reference (seen sc x) o
+    walk (s.var o x) sc = reference (sc x) o
     walk (s.paren o e) sc = walk_maybe e sc
     walk (s.dot o) sc = nothing
     walk (s.call o f es) sc = call_facts (function_of fs f (how_many es)) o with walk_all es sc
@@ -131,7 +128,7 @@ module _ (fs : List Signature) where
     walk_binds s.no_binds sc = nothing
     walk_binds (s.for_bind o x ty at e bs) sc =
         bind_type_facts ty with position_facts x at with walk e sc with walk_binds bs (behind_for o x at sc)
-    walk_binds (s.let_bind o x ty e bs) sc = bind_type_facts ty with walk e sc with walk_binds bs (local o x ∷ sc)
+    walk_binds (s.let_bind o x ty e bs) sc = bind_type_facts ty with walk e sc with walk_binds bs (with_local o x sc)
 
     pub walk_keys : Keys read → Scope → Facts
     walk_keys s.no_keys sc = nothing
