@@ -1,0 +1,11 @@
+pub mod Answering
+pub mod Orderings
+pub mod Numerals
+pub mod Calls
+pub mod NodeCalls
+pub mod CallRules
+pub mod Windows
+pub mod Gaps
+pub mod TextCalls
+pub mod Trims
+pub mod Replacements
