@@ -4,5 +4,6 @@ pub mod Exact
 pub mod Follow
 pub mod Good
 pub mod Levels
+pub mod LineLaws
 pub mod Past
 pub mod Worked

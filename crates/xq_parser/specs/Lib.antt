@@ -1,3 +1,4 @@
 pub mod Nested
 pub mod Parsers
 pub mod Reading
+pub mod Strings

@@ -1,4 +1,5 @@
 //! Reading of queries by the grammar of xq_ast.
 #![tactic(auto)]
 
+mod strings;
 mod words;
