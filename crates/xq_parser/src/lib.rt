@@ -1,5 +1,19 @@
 //! Reading of queries by the grammar of xq_ast.
 #![tactic(auto)]
 
+mod bindings;
+mod direct;
+mod encodings;
+mod fault;
+mod grammar;
+mod look;
+mod operators;
+mod paths;
+mod primaries;
+mod prolog;
 mod strings;
+mod terminals;
+mod types;
 mod words;
+
+pub use fault::ParseFault;

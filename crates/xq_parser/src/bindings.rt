@@ -1,0 +1,1 @@
+//! FLWOR expressions, quantifiers and conditions.

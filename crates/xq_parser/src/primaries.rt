@@ -1,0 +1,1 @@
+//! Primary expressions and constructors with words.
