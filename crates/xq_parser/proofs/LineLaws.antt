@@ -10,12 +10,12 @@ abbrev pub Joins : List ℕ → Bool → List ℕ → ℕ → Type 0
 Joins out after bytes i = out ++ lines_from after (drop i bytes) ≡ lines_from false bytes
 
 -- what the steps from here on give
-abbrev after_step : (ℕ → List ℕ) → Option (List ℕ × ℕ) → List ℕ
+abbrev pub after_step : (ℕ → List ℕ) → Option (List ℕ × ℕ) → List ℕ
 after_step rest None = []
 after_step rest (Some s) = s.0 ++ rest s.1
 
 -- a turn, as a step and the rest
-turn : (quote : ℕ) (text : List ℕ) (n at to : ℕ) → nat_le to at ≡ false → value_from quote text (suc n) at to ≡ after_step (λ next. value_from quote text n next to) (value_step quote text at)
+pub turn : (quote : ℕ) (text : List ℕ) (n at to : ℕ) → nat_le to at ≡ false → value_from quote text (suc n) at to ≡ after_step (λ next. value_from quote text n next to) (value_step quote text at)
 unfolding value_from
 turn quote text n at to below = rw below (by (byte text at == quote) (byte text at == 38) (byte text at == 13) (reference text at))
   where
@@ -53,7 +53,7 @@ step_ends : (rest : ℕ → List ℕ) (step : Option (List ℕ × ℕ)) (found n
 step_ends rest None found new e = ap (λ x. x.0) e ∙ sym (append-nil found)
 step_ends rest (Some s) found new e = absurd (Some≢None (ap (λ x. x.1) e))
 
-below_test : (to at : ℕ) → at < to → nat_le to at ≡ false
+pub below_test : (to at : ℕ) → at < to → nat_le to at ≡ false
 below_test to at l = grind (arith, nat_tests)
 
 more_turns : (quote : ℕ) (text : List ℕ) (to turn_ at last : ℕ) (found whole : List ℕ) → turn_ < to → at < last → found ++ value_from quote text (to - turn_) at last ≡ whole
@@ -72,7 +72,7 @@ pub value_ends : (quote : ℕ) (text : List ℕ) (to turn_ at last : ℕ) (found
 value_ends quote text to turn_ at last found new whole l below e h =
     step_ends (λ n. value_from quote text (to - (turn_ + 1)) n last) (value_step quote text at) found new e ∙ more_turns quote text to turn_ at last found whole l below h
 
-past_end : (quote : ℕ) (text : List ℕ) (n at last : ℕ) → nat_le last at ≡ true → value_from quote text n at last ≡ []
+pub past_end : (quote : ℕ) (text : List ℕ) (n at last : ℕ) → nat_le last at ≡ true → value_from quote text n at last ≡ []
 unfolding value_from
 past_end quote text zero at last t = refl
 past_end quote text (suc n) at last t = rw t refl
