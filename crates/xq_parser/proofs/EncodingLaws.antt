@@ -16,14 +16,12 @@ is_lower xs w = same (str_to_ascii_lowercase xs) w
 split : (bs ys w : List ℕ) → is_lower (bs ++ ys) w ≡ from_option (behind bs w) false (λ rest. is_lower ys rest)
 split [] ys w = refl
 split (b ∷ bs) ys [] = refl
-split (b ∷ bs) ys (c ∷ cs) = by (to_ascii_lowercase b == c)
+split (b ∷ bs) ys (c ∷ cs) = by (to_ascii_lowercase b == c) (split bs ys cs)
   where
-    rest : is_lower (bs ++ ys) cs ≡ from_option (behind bs cs) false (λ rest. is_lower ys rest)
-    rest = split bs ys cs
-
-    by : (t : Bool) → (t && is_lower (bs ++ ys) cs) ≡ from_option (cond t (behind bs cs) None) false (λ rest. is_lower ys rest)
-    by true = rest
-    by false = refl
+    by : (t : Bool) → is_lower (bs ++ ys) cs ≡ from_option (behind bs cs) false (λ rest. is_lower ys rest)
+        → (t && is_lower (bs ++ ys) cs) ≡ from_option (cond t (behind bs cs) None) false (λ rest. is_lower ys rest)
+    by true e = e
+    by false e = refl
 
 -- a step compared
 step_compared : (rest : ℕ → List ℕ) (step : Option (List ℕ × ℕ)) (w : List ℕ) (last : ℕ) → rest last ≡ []
@@ -57,9 +55,12 @@ pub word_differs : (quote : ℕ) (text : List ℕ) (to turn_ at last : ℕ) (w :
 word_differs quote text to turn_ at last w whole l below e h =
     h ∙ one_turn quote text to turn_ at last w l below ∙ ap (λ o. from_option o false (λ (r : List ℕ × ℕ). is_lower (value_from quote text (to - (turn_ + 1)) r.1 last) r.0)) e
 
+some_left : (n : ℕ) → false ≡ (suc n == 0)
+some_left n = grind (arith, nat_tests)
+
 nothing_left : (w : List ℕ) → is_lower [] w ≡ (length w == 0)
 nothing_left [] = refl
-nothing_left (c ∷ cs) = refl
+nothing_left (c ∷ cs) = some_left (length cs)
 
 pub word_ends : (quote : ℕ) (text : List ℕ) (n at last : ℕ) (w : List ℕ) (whole : Bool) → last ≤ at → whole ≡ is_lower (value_from quote text n at last) w → whole ≡ (length w == 0)
 word_ends quote text n at last w whole l h =
