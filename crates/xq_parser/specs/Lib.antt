@@ -1,5 +1,7 @@
+pub mod Encodings
 pub mod Nested
 pub mod Outcomes
 pub mod Parsers
+pub mod Query
 pub mod Reading
 pub mod Strings

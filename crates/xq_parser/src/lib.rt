@@ -13,6 +13,7 @@ mod primaries;
 mod prolog;
 mod strings;
 mod terminals;
+mod text;
 mod types;
 mod words;
 
