@@ -122,7 +122,12 @@ fn cast_to(
 {
     match kind {
         None => Ok(operand),
-        Some((name, optional)) => Ok(Node::Cast(offset, Boxed::new(alloc, operand)?, name, optional)),
+        Some((name, optional)) => Ok(Node::Cast(
+            offset,
+            Boxed::new(alloc, operand)?,
+            name,
+            optional,
+        )),
     }
 }
 
@@ -214,6 +219,7 @@ impl<'a, N: Nested> Grammar<'a, N> {
         Ok((operator_of(here), end_at(self.text, at, Due::Operator)))
     }
 
+    /// A sign, with its offset.
     #[tactic(auto, unfolding(xq_ast::specs::Operators::one_sign))]
     fn one_sign(&self, at: usize) -> Result<(Signed, usize), ParseFault>
         requires { N.reads self.now.nested self.now.depth }
@@ -229,6 +235,7 @@ impl<'a, N: Nested> Grammar<'a, N> {
         }
     }
 
+    /// The signs before an operand.
     #[tactic(auto, unfolding(xq_ast::specs::Operators::one_sign))]
     fn signs(&self, at: usize) -> Result<(Items<Signed>, usize), ParseFault>
         requires { N.reads self.now.nested self.now.depth }
@@ -246,6 +253,7 @@ impl<'a, N: Nested> Grammar<'a, N> {
         )
     }
 
+    /// UnaryExpr; its offset is that of the first sign (XQuery 1.0, production 58).
     #[tactic(auto, unfolding(xq_ast::specs::Operators::unary))]
     fn unary(&self, at: usize) -> Result<(Tree, usize), ParseFault>
         requires { N.reads self.now.nested self.now.depth }
@@ -257,6 +265,7 @@ impl<'a, N: Nested> Grammar<'a, N> {
         Ok((signed(self.alloc, offset, signs, operand)?, at))
     }
 
+    /// SingleType: the name of the type, and whether `?` stands behind it (XQuery 1.0, production 117).
     #[tactic(auto, unfolding(xq_ast::specs::Operators::single_type))]
     fn single_type(&self, at: usize) -> Result<((ReadName, bool), usize), ParseFault>
         requires { N.reads self.now.nested self.now.depth }
@@ -270,6 +279,7 @@ impl<'a, N: Nested> Grammar<'a, N> {
         Ok(((name, true), at))
     }
 
+    /// `cast as` and its type, or nothing.
     #[tactic(auto, unfolding(xq_ast::specs::Operators::cast_type))]
     fn cast_type(&self, at: usize) -> Result<(Option<(ReadName, bool)>, usize), ParseFault>
         requires { N.reads self.now.nested self.now.depth }
@@ -284,6 +294,7 @@ impl<'a, N: Nested> Grammar<'a, N> {
         Ok((Some(found), at))
     }
 
+    /// CastExpr (XQuery 1.0, production 57).
     #[tactic(auto, unfolding(xq_ast::specs::Operators::cast))]
     fn cast(&self, at: usize) -> Result<(Tree, usize), ParseFault>
         requires { N.reads self.now.nested self.now.depth }
@@ -295,6 +306,7 @@ impl<'a, N: Nested> Grammar<'a, N> {
         Ok((cast_to(self.alloc, offset, operand, kind)?, at))
     }
 
+    /// `castable as` and its type, or nothing.
     #[tactic(auto, unfolding(xq_ast::specs::Operators::castable_type))]
     fn castable_type(&self, at: usize) -> Result<(Option<(ReadName, bool)>, usize), ParseFault>
         requires { N.reads self.now.nested self.now.depth }
@@ -309,6 +321,7 @@ impl<'a, N: Nested> Grammar<'a, N> {
         Ok((Some(found), at))
     }
 
+    /// CastableExpr (XQuery 1.0, production 56).
     #[tactic(auto, unfolding(xq_ast::specs::Operators::castable))]
     fn castable(&self, at: usize) -> Result<(Tree, usize), ParseFault>
         requires { N.reads self.now.nested self.now.depth }
@@ -320,6 +333,7 @@ impl<'a, N: Nested> Grammar<'a, N> {
         Ok((castable_to(self.alloc, offset, operand, kind)?, at))
     }
 
+    /// `treat as` and its type, or nothing.
     #[tactic(auto, unfolding(xq_ast::specs::Operators::treat_type))]
     fn treat_type(&self, at: usize) -> Result<(Option<ReadType>, usize), ParseFault>
         requires { N.reads self.now.nested self.now.depth }
@@ -334,6 +348,7 @@ impl<'a, N: Nested> Grammar<'a, N> {
         Ok((Some(found), at))
     }
 
+    /// TreatExpr (XQuery 1.0, production 55).
     #[tactic(auto, unfolding(xq_ast::specs::Operators::treat))]
     fn treat(&self, at: usize) -> Result<(Tree, usize), ParseFault>
         requires { N.reads self.now.nested self.now.depth }
@@ -345,6 +360,7 @@ impl<'a, N: Nested> Grammar<'a, N> {
         Ok((treated(self.alloc, offset, operand, ty)?, at))
     }
 
+    /// `instance of` and its type, or nothing.
     #[tactic(auto, unfolding(xq_ast::specs::Operators::instance_type))]
     fn instance_type(&self, at: usize) -> Result<(Option<ReadType>, usize), ParseFault>
         requires { N.reads self.now.nested self.now.depth }
@@ -359,6 +375,7 @@ impl<'a, N: Nested> Grammar<'a, N> {
         Ok((Some(found), at))
     }
 
+    /// InstanceofExpr (XQuery 1.0, production 54).
     #[tactic(auto, unfolding(xq_ast::specs::Operators::instance))]
     fn instance(&self, at: usize) -> Result<(Tree, usize), ParseFault>
         requires { N.reads self.now.nested self.now.depth }
@@ -391,6 +408,7 @@ impl<'a, N: Nested> Grammar<'a, N> {
         )
     }
 
+    /// IntersectExceptExpr (XQuery 1.0, production 53).
     #[tactic(auto, unfolding(xq_ast::specs::Operators::intersect))]
     fn intersect(&self, at: usize) -> Result<(Tree, usize), ParseFault>
         requires { N.reads self.now.nested self.now.depth }
@@ -423,6 +441,7 @@ impl<'a, N: Nested> Grammar<'a, N> {
         )
     }
 
+    /// UnionExpr (XQuery 1.0, production 52).
     #[tactic(auto, unfolding(xq_ast::specs::Operators::union))]
     fn union(&self, at: usize) -> Result<(Tree, usize), ParseFault>
         requires { N.reads self.now.nested self.now.depth }
@@ -434,6 +453,7 @@ impl<'a, N: Nested> Grammar<'a, N> {
         Ok((chained(self.alloc, offset, first, more)?, at))
     }
 
+    /// `*`, `idiv` or `mod`; `div` is left out.
     #[tactic(auto, unfolding(xq_ast::specs::Operators::times))]
     fn times(&self, at: usize) -> Result<(Operator, usize), ParseFault>
         requires { N.reads self.now.nested self.now.depth }
@@ -469,6 +489,7 @@ impl<'a, N: Nested> Grammar<'a, N> {
         )
     }
 
+    /// MultiplicativeExpr (XQuery 1.0, production 51).
     #[tactic(auto, unfolding(xq_ast::specs::Operators::multiplied))]
     fn multiplied(&self, at: usize) -> Result<(Tree, usize), ParseFault>
         requires { N.reads self.now.nested self.now.depth }
@@ -501,6 +522,7 @@ impl<'a, N: Nested> Grammar<'a, N> {
         )
     }
 
+    /// AdditiveExpr (XQuery 1.0, production 50).
     #[tactic(auto, unfolding(xq_ast::specs::Operators::added))]
     fn added(&self, at: usize) -> Result<(Tree, usize), ParseFault>
         requires { N.reads self.now.nested self.now.depth }
@@ -512,6 +534,7 @@ impl<'a, N: Nested> Grammar<'a, N> {
         Ok((chained(self.alloc, offset, first, more)?, at))
     }
 
+    /// `to` and its operand, or nothing.
     #[tactic(auto, unfolding(xq_ast::specs::Operators::range_end))]
     fn range_end(&self, at: usize) -> Result<(Option<Right<Tree>>, usize), ParseFault>
         requires { N.reads self.now.nested self.now.depth }
@@ -525,6 +548,7 @@ impl<'a, N: Nested> Grammar<'a, N> {
         Ok((Some(Right { operator, operand }), at))
     }
 
+    /// RangeExpr (XQuery 1.0, production 49).
     #[tactic(auto, unfolding(xq_ast::specs::Operators::range))]
     fn range(&self, at: usize) -> Result<(Tree, usize), ParseFault>
         requires { N.reads self.now.nested self.now.depth }
@@ -565,6 +589,7 @@ impl<'a, N: Nested> Grammar<'a, N> {
         Ok((Right { operator, operand }, at))
     }
 
+    /// A comparison's operator and its second operand, or nothing.
     #[tactic(auto, unfolding(xq_ast::specs::Operators::compared_to))]
     fn compared_to(&self, at: usize) -> Result<(Option<Right<Tree>>, usize), ParseFault>
         requires { N.reads self.now.nested self.now.depth }
@@ -577,6 +602,7 @@ impl<'a, N: Nested> Grammar<'a, N> {
         Ok((Some(found), at))
     }
 
+    /// ComparisonExpr (XQuery 1.0, production 48).
     #[tactic(auto, unfolding(xq_ast::specs::Operators::comparison))]
     fn comparison(&self, at: usize) -> Result<(Tree, usize), ParseFault>
         requires { N.reads self.now.nested self.now.depth }
@@ -609,6 +635,7 @@ impl<'a, N: Nested> Grammar<'a, N> {
         )
     }
 
+    /// AndExpr (XQuery 1.0, production 47).
     #[tactic(auto, unfolding(xq_ast::specs::Operators::conjunction))]
     fn conjunction(&self, at: usize) -> Result<(Tree, usize), ParseFault>
         requires { N.reads self.now.nested self.now.depth }

@@ -157,6 +157,7 @@ fn begins_step(text: &[u8], at: usize) -> bool
 }
 
 impl<'a, N: Nested> Grammar<'a, N> {
+    /// Predicate (XQuery 1.0, production 83).
     #[tactic(auto, unfolding(xq_ast::specs::Paths::predicate))]
     fn predicate(&self, at: usize) -> Result<(Tree, usize), ParseFault>
         requires { N.reads self.now.nested self.now.depth }
@@ -186,6 +187,7 @@ impl<'a, N: Nested> Grammar<'a, N> {
         )
     }
 
+    /// NodeTest behind an axis (XQuery 1.0, production 78).
     #[tactic(auto, unfolding(xq_ast::specs::Paths::test))]
     fn test(&self, at: usize) -> Result<(Test<Bytes>, usize), ParseFault>
         requires { N.reads self.now.nested self.now.depth }
@@ -211,6 +213,7 @@ impl<'a, N: Nested> Grammar<'a, N> {
         }
     }
 
+    /// An axis and its test (XQuery 1.0, productions 72 to 76).
     #[tactic(auto, unfolding(xq_ast::specs::Paths::axis_step))]
     fn axis_step(&self, at: usize) -> Result<(TreeKind, usize), ParseFault>
         requires { N.reads self.now.nested self.now.depth }
@@ -226,6 +229,7 @@ impl<'a, N: Nested> Grammar<'a, N> {
         Ok((StepKind::Walk(axis, found), at))
     }
 
+    /// `@` and a test (XQuery 1.0, production 74).
     #[tactic(auto, unfolding(xq_ast::specs::Paths::at_step))]
     fn at_step(&self, at: usize) -> Result<(TreeKind, usize), ParseFault>
         requires { N.reads self.now.nested self.now.depth }
@@ -236,6 +240,7 @@ impl<'a, N: Nested> Grammar<'a, N> {
         Ok((StepKind::Walk(Axis::Attribute, found), at))
     }
 
+    /// `*` on the child axis (XQuery 1.0, production 74).
     #[tactic(auto, unfolding(xq_ast::specs::Paths::any_step))]
     fn any_step(&self, at: usize) -> Result<(TreeKind, usize), ParseFault>
         requires { N.reads self.now.nested self.now.depth }
@@ -245,6 +250,7 @@ impl<'a, N: Nested> Grammar<'a, N> {
         Ok((StepKind::Walk(Axis::Child, Test::Star), at))
     }
 
+    /// A name on the child axis (XQuery 1.0, production 74).
     #[tactic(auto, unfolding(xq_ast::specs::Paths::named_step))]
     fn named_step(&self, at: usize) -> Result<(TreeKind, usize), ParseFault>
         requires { N.reads self.now.nested self.now.depth }
@@ -254,6 +260,7 @@ impl<'a, N: Nested> Grammar<'a, N> {
         Ok((StepKind::Walk(Axis::Child, Test::Named(found)), at))
     }
 
+    /// `..` (XQuery 1.0, production 77).
     #[tactic(auto, unfolding(xq_ast::specs::Paths::up_step))]
     fn up_step(&self, at: usize) -> Result<(TreeKind, usize), ParseFault>
         requires { N.reads self.now.nested self.now.depth }
@@ -272,6 +279,7 @@ impl<'a, N: Nested> Grammar<'a, N> {
         Ok((StepKind::Primary(Boxed::new(self.alloc, found)?), at))
     }
 
+    /// A step, or a primary expression as one, without its predicates (XQuery 1.0, production 70).
     #[tactic(auto, unfolding(xq_ast::specs::Paths::step_kind))]
     fn step_kind(&self, at: usize) -> Result<(TreeKind, usize), ParseFault>
         requires { N.reads self.now.nested self.now.depth }
@@ -296,6 +304,7 @@ impl<'a, N: Nested> Grammar<'a, N> {
         }
     }
 
+    /// StepExpr; its offset is its own first byte (XQuery 1.0, production 70).
     #[tactic(auto, unfolding(xq_ast::specs::Paths::step))]
     fn step(&self, at: usize) -> Result<(TreeStep, usize), ParseFault>
         requires { N.reads self.now.nested self.now.depth }
@@ -312,6 +321,7 @@ impl<'a, N: Nested> Grammar<'a, N> {
         Ok((found, at))
     }
 
+    /// `//`: the offset of its first slash.
     #[tactic(auto, unfolding(xq_ast::specs::Paths::two))]
     fn two(&self, at: usize, due: Due) -> Result<(u64, usize), ParseFault>
         requires { N.reads self.now.nested self.now.depth }
@@ -322,6 +332,7 @@ impl<'a, N: Nested> Grammar<'a, N> {
         Ok((offset, at))
     }
 
+    /// `/` or `//` between two steps.
     #[tactic(auto, unfolding(xq_ast::specs::Paths::slashes))]
     fn slashes(&self, at: usize) -> Result<(Slashes, usize), ParseFault>
         requires { N.reads self.now.nested self.now.depth }
@@ -357,6 +368,7 @@ impl<'a, N: Nested> Grammar<'a, N> {
         )
     }
 
+    /// `/` and a path, or `/` alone where no step can begin (XQuery 1.0, production 68).
     #[tactic(auto, unfolding(xq_ast::specs::Paths::root))]
     fn root(&self, at: usize) -> Result<(Tree, usize), ParseFault>
         requires { N.reads self.now.nested self.now.depth }
@@ -372,6 +384,7 @@ impl<'a, N: Nested> Grammar<'a, N> {
         Ok((Node::Path(Start::Root(offset), first, more), at))
     }
 
+    /// `//` and a path (XQuery 1.0, production 68).
     #[tactic(auto, unfolding(xq_ast::specs::Paths::deep_root))]
     fn deep_root(&self, at: usize) -> Result<(Tree, usize), ParseFault>
         requires { N.reads self.now.nested self.now.depth }

@@ -54,6 +54,7 @@ fn begins_builder(text: &[u8], at: usize) -> bool
 }
 
 impl<'a, N: Nested> Grammar<'a, N> {
+    /// IntegerLiteral (XQuery 1.0, production 141).
     #[tactic(auto, unfolding(xq_ast::specs::Primaries::integer))]
     fn integer(&self, at: usize) -> Result<(Tree, usize), ParseFault>
         requires { N.reads self.now.nested self.now.depth }
@@ -64,6 +65,7 @@ impl<'a, N: Nested> Grammar<'a, N> {
         Ok((Node::Integer(offset, found), at))
     }
 
+    /// StringLiteral (XQuery 1.0, production 144).
     #[tactic(auto, unfolding(xq_ast::specs::Primaries::literal))]
     fn literal(&self, at: usize) -> Result<(Tree, usize), ParseFault>
         requires { N.reads self.now.nested self.now.depth }
@@ -74,6 +76,7 @@ impl<'a, N: Nested> Grammar<'a, N> {
         Ok((Node::Text(offset, text), at))
     }
 
+    /// VarRef (XQuery 1.0, production 87).
     #[tactic(auto, unfolding(xq_ast::specs::Primaries::var))]
     fn var(&self, at: usize) -> Result<(Tree, usize), ParseFault>
         requires { N.reads self.now.nested self.now.depth }
@@ -85,6 +88,7 @@ impl<'a, N: Nested> Grammar<'a, N> {
         Ok((Node::Var(offset, found), at))
     }
 
+    /// What parentheses hold, and the closing one.
     #[tactic(auto, unfolding(xq_ast::specs::Primaries::inside))]
     fn inside(&self, at: usize) -> Result<(Option<Boxed<Tree>>, usize), ParseFault>
         requires { N.reads self.now.nested self.now.depth }
@@ -99,6 +103,7 @@ impl<'a, N: Nested> Grammar<'a, N> {
         Ok((Some(Boxed::new(self.alloc, found)?), at))
     }
 
+    /// ParenthesizedExpr (XQuery 1.0, production 89).
     #[tactic(auto, unfolding(xq_ast::specs::Primaries::paren))]
     fn paren(&self, at: usize) -> Result<(Tree, usize), ParseFault>
         requires { N.reads self.now.nested self.now.depth }
@@ -110,6 +115,7 @@ impl<'a, N: Nested> Grammar<'a, N> {
         Ok((Node::Paren(offset, found), at))
     }
 
+    /// ContextItemExpr (XQuery 1.0, production 90).
     #[tactic(auto, unfolding(xq_ast::specs::Primaries::dot))]
     fn dot(&self, at: usize) -> Result<(Tree, usize), ParseFault>
         requires { N.reads self.now.nested self.now.depth }
@@ -133,8 +139,9 @@ impl<'a, N: Nested> Grammar<'a, N> {
         Ok((found, at))
     }
 
+    /// The arguments of a call, and `)` (XQuery 1.0, production 93).
     #[tactic(auto, unfolding(xq_ast::specs::Primaries::arguments))]
-    fn arguments(&self, at: usize) -> Result<(Items<Tree>, usize), ParseFault>
+    pub fn arguments(&self, at: usize) -> Result<(Items<Tree>, usize), ParseFault>
         requires { N.reads self.now.nested self.now.depth }
         ensures { Reads self.now.text.now self.now.depth rule.arguments at result }
     {
@@ -147,6 +154,7 @@ impl<'a, N: Nested> Grammar<'a, N> {
         Ok((found, at))
     }
 
+    /// FunctionCall (XQuery 1.0, production 93).
     #[tactic(auto, unfolding(xq_ast::specs::Primaries::call))]
     fn call(&self, at: usize) -> Result<(Tree, usize), ParseFault>
         requires { N.reads self.now.nested self.now.depth }
@@ -170,6 +178,7 @@ impl<'a, N: Nested> Grammar<'a, N> {
         Ok((BuildName::Computed(Boxed::new(self.alloc, found)?), at))
     }
 
+    /// The name of an element or an attribute: QName, or computed.
     #[tactic(auto, unfolding(xq_ast::specs::Primaries::build_name))]
     fn build_name(&self, at: usize) -> Result<(TreeName, usize), ParseFault>
         requires { N.reads self.now.nested self.now.depth }
@@ -182,6 +191,7 @@ impl<'a, N: Nested> Grammar<'a, N> {
         Ok((BuildName::Named(found), at))
     }
 
+    /// The target of an instruction: NCName, or computed.
     #[tactic(auto, unfolding(xq_ast::specs::Primaries::target_name))]
     fn target_name(&self, at: usize) -> Result<(TreeName, usize), ParseFault>
         requires { N.reads self.now.nested self.now.depth }
@@ -208,6 +218,7 @@ impl<'a, N: Nested> Grammar<'a, N> {
         Ok((Some(Boxed::new(self.alloc, found)?), at))
     }
 
+    /// The content of a constructor in its braces, or none.
     #[tactic(auto, unfolding(xq_ast::specs::Primaries::build_content))]
     fn build_content(&self, at: usize) -> Result<(Option<Boxed<Tree>>, usize), ParseFault>
         requires { N.reads self.now.nested self.now.depth }
@@ -229,6 +240,7 @@ impl<'a, N: Nested> Grammar<'a, N> {
         Ok((build_kind(here), end_at(self.text, at, Due::Operand)))
     }
 
+    /// CompElemConstructor, CompAttrConstructor (XQuery 1.0, productions 111 and 113).
     #[tactic(auto, unfolding(xq_ast::specs::Primaries::named_builder))]
     fn named_builder(&self, at: usize) -> Result<(Tree, usize), ParseFault>
         requires { N.reads self.now.nested self.now.depth }
@@ -241,6 +253,7 @@ impl<'a, N: Nested> Grammar<'a, N> {
         Ok((Node::Build(offset, kind, name, content), at))
     }
 
+    /// CompPIConstructor (XQuery 1.0, production 116).
     #[tactic(auto, unfolding(xq_ast::specs::Primaries::instruction_builder))]
     fn instruction_builder(&self, at: usize) -> Result<(Tree, usize), ParseFault>
         requires { N.reads self.now.nested self.now.depth }
@@ -253,19 +266,28 @@ impl<'a, N: Nested> Grammar<'a, N> {
         Ok((Node::Build(offset, kind, name, content), at))
     }
 
+    /// CompDocConstructor, CompTextConstructor, CompCommentConstructor (XQuery 1.0, productions 110, 114 and 115).
     #[tactic(auto, unfolding(xq_ast::specs::Primaries::block_builder))]
     fn block_builder(&self, at: usize) -> Result<(Tree, usize), ParseFault>
         requires { N.reads self.now.nested self.now.depth }
         ensures { Reads self.now.text.now self.now.depth rule.block_builder at result }
     {
         let offset = place(self.text, at) as u64;
-        let kinds = [Look::DocumentBuilder, Look::TextBuilder, Look::CommentBuilder];
+        let kinds = [
+            Look::DocumentBuilder,
+            Look::TextBuilder,
+            Look::CommentBuilder,
+        ];
         let (kind, at) = self.build_word(at, &kinds)?;
         let (content, at) = self.block(at)?;
         let content = Boxed::new(self.alloc, content)?;
-        Ok((Node::Build(offset, kind, BuildName::Absent, Some(content)), at))
+        Ok((
+            Node::Build(offset, kind, BuildName::Absent, Some(content)),
+            at,
+        ))
     }
 
+    /// ComputedConstructor (XQuery 1.0, production 109).
     #[tactic(auto, unfolding(xq_ast::specs::Primaries::builder))]
     fn builder(&self, at: usize) -> Result<(Tree, usize), ParseFault>
         requires { N.reads self.now.nested self.now.depth }

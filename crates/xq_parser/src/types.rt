@@ -62,6 +62,7 @@ pub fn begins_kind(text: &[u8], at: usize, due: Due) -> bool
 }
 
 impl<'a, N: Nested> Grammar<'a, N> {
+    /// AnyKindTest, TextTest, CommentTest, DocumentTest without content (XQuery 1.0, productions 124 to 127).
     #[tactic(auto, unfolding(xq_ast::specs::Types::plain_test))]
     fn plain_test(&self, at: usize, due: Due) -> Result<(TreeTest, usize), ParseFault>
         requires { N.reads self.now.nested self.now.depth }
@@ -99,6 +100,7 @@ impl<'a, N: Nested> Grammar<'a, N> {
         }
     }
 
+    /// What a test of instructions has in its parentheses, and the closing one (XQuery 1.0, production 128).
     #[tactic(auto, unfolding(xq_ast::specs::Types::target))]
     fn target(&self, at: usize) -> Result<(Option<ReadName>, usize), ParseFault>
         requires { N.reads self.now.nested self.now.depth }
@@ -113,6 +115,7 @@ impl<'a, N: Nested> Grammar<'a, N> {
         Ok((Some(found), at))
     }
 
+    /// PITest (XQuery 1.0, production 128).
     #[tactic(auto, unfolding(xq_ast::specs::Types::instruction_test))]
     fn instruction_test(&self, at: usize, due: Due) -> Result<(TreeTest, usize), ParseFault>
         requires { N.reads self.now.nested self.now.depth }
@@ -124,6 +127,7 @@ impl<'a, N: Nested> Grammar<'a, N> {
         Ok((KindTest::Instruction(found), at))
     }
 
+    /// `)`; a second argument is left out.
     #[tactic(auto, unfolding(xq_ast::specs::Types::last_argument))]
     fn last_argument(&self, at: usize) -> Result<usize, ParseFault>
         requires { N.reads self.now.nested self.now.depth }
@@ -135,6 +139,7 @@ impl<'a, N: Nested> Grammar<'a, N> {
         sign(self.text, at, Due::Operator, Look::Close)
     }
 
+    /// `*`, a name or nothing, and `)`.
     #[tactic(auto, unfolding(xq_ast::specs::Types::named_argument))]
     fn named_argument(&self, at: usize) -> Result<(Option<ReadName>, usize), ParseFault>
         requires { N.reads self.now.nested self.now.depth }
@@ -155,6 +160,7 @@ impl<'a, N: Nested> Grammar<'a, N> {
         Ok((Some(found), at))
     }
 
+    /// ElementTest (XQuery 1.0, production 129).
     #[tactic(auto, unfolding(xq_ast::specs::Types::element_test))]
     fn element_test(&self, at: usize, due: Due) -> Result<(TreeTest, usize), ParseFault>
         requires { N.reads self.now.nested self.now.depth }
@@ -166,6 +172,7 @@ impl<'a, N: Nested> Grammar<'a, N> {
         Ok((KindTest::Element(found), at))
     }
 
+    /// AttributeTest (XQuery 1.0, production 133).
     #[tactic(auto, unfolding(xq_ast::specs::Types::attribute_test))]
     fn attribute_test(&self, at: usize, due: Due) -> Result<(TreeTest, usize), ParseFault>
         requires { N.reads self.now.nested self.now.depth }
@@ -199,6 +206,7 @@ impl<'a, N: Nested> Grammar<'a, N> {
         }
     }
 
+    /// `item()` (XQuery 1.0, production 121).
     #[tactic(auto, unfolding(xq_ast::specs::Types::any_item))]
     fn any_item(&self, at: usize) -> Result<(ReadItem, usize), ParseFault>
         requires { N.reads self.now.nested self.now.depth }
@@ -210,6 +218,7 @@ impl<'a, N: Nested> Grammar<'a, N> {
         Ok((ReadItem::Any, at))
     }
 
+    /// ItemType (XQuery 1.0, production 121).
     #[tactic(auto, unfolding(xq_ast::specs::Types::item_type))]
     fn item_type(&self, at: usize) -> Result<(ReadItem, usize), ParseFault>
         requires { N.reads self.now.nested self.now.depth }
@@ -229,6 +238,7 @@ impl<'a, N: Nested> Grammar<'a, N> {
         }
     }
 
+    /// OccurrenceIndicator, which belongs to the type where it stands (XQuery 1.0, production 120).
     #[tactic(auto, unfolding(xq_ast::specs::Types::occurs))]
     fn occurs(&self, at: usize) -> Result<(Occurs, usize), ParseFault>
         requires { N.reads self.now.nested self.now.depth }
@@ -242,6 +252,7 @@ impl<'a, N: Nested> Grammar<'a, N> {
         }
     }
 
+    /// `empty-sequence()` (XQuery 1.0, production 119).
     #[tactic(auto, unfolding(xq_ast::specs::Types::empty_type))]
     fn empty_type(&self, at: usize) -> Result<(ReadType, usize), ParseFault>
         requires { N.reads self.now.nested self.now.depth }
