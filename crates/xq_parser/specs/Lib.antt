@@ -1,5 +1,6 @@
 pub mod Encodings
 pub mod Nested
+pub mod Optional
 pub mod Outcomes
 pub mod Parsers
 pub mod Query
