@@ -88,7 +88,7 @@ impl<'a, N: Nested> Grammar<'a, N> {
     }
 
     /// The target of a test of instructions, as a string or a name (XQuery 1.0, production 128).
-    fn target_name(&self, at: usize) -> Result<(ReadName, usize), ParseFault>
+    fn target_text(&self, at: usize) -> Result<(ReadName, usize), ParseFault>
         requires { N.reads self.now.nested self.now.depth }
         ensures { Reads self.now.text.now self.now.depth (either (terminal.one due_.Named k.Quoted) (terminal.string due_.Named) terminal.ncname) at result }
     {
@@ -108,7 +108,7 @@ impl<'a, N: Nested> Grammar<'a, N> {
             let at = sign(self.text, at, Due::Named, Look::Close)?;
             return Ok((None, at));
         }
-        let (found, at) = self.target_name(at)?;
+        let (found, at) = self.target_text(at)?;
         let at = sign(self.text, at, Due::Operator, Look::Close)?;
         Ok((Some(found), at))
     }
