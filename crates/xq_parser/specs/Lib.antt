@@ -3,6 +3,7 @@ pub mod Nested
 pub mod Optional
 pub mod Outcomes
 pub mod Parsers
+pub mod Partial
 pub mod Query
 pub mod Reading
 pub mod Strings
