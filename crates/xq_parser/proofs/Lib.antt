@@ -6,6 +6,7 @@ pub mod Follow
 pub mod Good
 pub mod Levels
 pub mod LineLaws
+pub mod Parts
 pub mod Past
 pub mod Query
 pub mod Spelled
