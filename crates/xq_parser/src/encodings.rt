@@ -119,7 +119,8 @@ pub fn is_other_encoding(text: &[u8], token: Option<Token>) -> bool
         None => false,
         Some(t) => match t.kind {
             TokenKind::Quoted => {
-                !is_word(text, t.start, t.end, b"utf-8") && !is_word(text, t.start, t.end, b"us-ascii")
+                !is_word(text, t.start, t.end, b"utf-8")
+                    && !is_word(text, t.start, t.end, b"us-ascii")
             }
             _ => false,
         },

@@ -7,7 +7,9 @@ mod encodings;
 mod fault;
 mod grammar;
 mod look;
+mod nesting;
 mod operators;
+mod parser;
 mod paths;
 mod primaries;
 mod prolog;
@@ -18,3 +20,4 @@ mod types;
 mod words;
 
 pub use fault::ParseFault;
+pub use parser::{one_reading, parse};

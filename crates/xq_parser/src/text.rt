@@ -35,5 +35,9 @@ pub fn is_text(bytes: &[u8]) -> bool
 pub fn after_mark(text: &[u8]) -> usize
     ensures { result ≡ spec.after_mark text.now }
 {
-    if follows(b"\xEF\xBB\xBF", text, 0) { 3 } else { 0 }
+    if follows(b"\xEF\xBB\xBF", text, 0) {
+        3
+    } else {
+        0
+    }
 }
