@@ -6,7 +6,7 @@ ghost use Rattle.xq_ast.specs.Bindings as rule;
 ghost use Rattle.xq_ast.specs.Rules.{many, maybe};
 ghost use Rattle.xq_ast.specs.Terminals.{operator, of_class, listed};
 ghost use Rattle.xq_ast.specs.Types.{typ};
-ghost use Rattle.xq_parser.specs.Outcomes.{Gives, Reads, ReadsPast, read, single_reads, more};
+ghost use Rattle.xq_parser.specs.Outcomes.{Reads, ReadsPast, read, more};
 ghost use Rattle.xq_parser.specs.Partial.{GivesBy, tested, if_tested, branched, if_branched};
 
 use crate::fault::ParseFault;
@@ -63,15 +63,6 @@ impl<'a, N: Nested> Grammar<'a, N> {
         Ok((Variable { offset, name }, at))
     }
 
-    /// An ExprSingle in a box.
-    fn boxed_single(&self, at: usize) -> Result<(Boxed<Tree>, usize), ParseFault>
-        requires { N.reads self.now.nested self.now.depth }
-        ensures { Gives (single_reads self.now.text.now self.now.depth at) result }
-    {
-        let (found, at) = self.single(at)?;
-        Ok((Boxed::new(self.alloc, found)?, at))
-    }
-
     /// TypeDeclaration, if there is one (XQuery 1.0, production 118).
     #[tactic(auto, unfolding(xq_ast::specs::Types::typ))]
     pub fn maybe_typ(&self, at: usize) -> Result<(Option<ReadType>, usize), ParseFault>
@@ -109,7 +100,7 @@ impl<'a, N: Nested> Grammar<'a, N> {
         let (ty, at) = self.maybe_typ(at)?;
         let (position, at) = self.position(at)?;
         let at = sign(self.text, at, Due::Operator, Look::In)?;
-        let (source, at) = self.boxed_single(at)?;
+        let (source, at) = self.single(at)?;
         let found = ForBind {
             var,
             ty,
@@ -147,7 +138,7 @@ impl<'a, N: Nested> Grammar<'a, N> {
         let (var, at) = self.variable(at)?;
         let (ty, at) = self.maybe_typ(at)?;
         let at = sign(self.text, at, Due::Operator, Look::Assign)?;
-        let (value, at) = self.boxed_single(at)?;
+        let (value, at) = self.single(at)?;
         Ok((LetBind { var, ty, value }, at))
     }
 
@@ -245,7 +236,7 @@ impl<'a, N: Nested> Grammar<'a, N> {
             return Ok((None, at));
         }
         let at = sign(self.text, at, Due::Operator, Look::Where)?;
-        let (found, at) = self.boxed_single(at)?;
+        let (found, at) = self.single(at)?;
         Ok((Some(found), at))
     }
 
@@ -303,7 +294,7 @@ impl<'a, N: Nested> Grammar<'a, N> {
         requires { N.reads self.now.nested self.now.depth }
         ensures { Reads self.now.text.now self.now.depth rule.key at result }
     {
-        let (key, at) = self.boxed_single(at)?;
+        let (key, at) = self.single(at)?;
         let (descending, at) = self.descending(at)?;
         let (empty_greatest, at) = self.empty_greatest(at)?;
         let at = self.collation(at)?;
@@ -367,7 +358,7 @@ impl<'a, N: Nested> Grammar<'a, N> {
 
     /// FLWORExpr (XQuery 1.0, production 33).
     #[tactic(auto, unfolding(xq_ast::specs::Bindings::flwor))]
-    fn flwor(&self, at: usize) -> Result<(Tree, usize), ParseFault>
+    fn flwor(&self, at: usize) -> Result<(Boxed<Tree>, usize), ParseFault>
         requires { N.reads self.now.nested self.now.depth }
         ensures { Reads self.now.text.now self.now.depth rule.flwor at result }
     {
@@ -376,8 +367,9 @@ impl<'a, N: Nested> Grammar<'a, N> {
         let (condition, at) = self.condition(at)?;
         let (keys, at) = self.order(at)?;
         let at = sign(self.text, at, Due::Operator, Look::Return)?;
-        let (body, at) = self.boxed_single(at)?;
-        Ok((Node::Flwor(offset, clauses, condition, keys, body), at))
+        let (body, at) = self.single(at)?;
+        let found = Node::Flwor(offset, clauses, condition, keys, body);
+        Ok((Boxed::new(self.alloc, found)?, at))
     }
 
     /// A binding of `some` or `every` (XQuery 1.0, production 42).
@@ -389,7 +381,7 @@ impl<'a, N: Nested> Grammar<'a, N> {
         let (var, at) = self.variable(at)?;
         let (ty, at) = self.maybe_typ(at)?;
         let at = sign(self.text, at, Due::Operator, Look::In)?;
-        let (source, at) = self.boxed_single(at)?;
+        let (source, at) = self.single(at)?;
         Ok((QuantBind { var, ty, source }, at))
     }
 
@@ -433,7 +425,7 @@ impl<'a, N: Nested> Grammar<'a, N> {
 
     /// QuantifiedExpr (XQuery 1.0, production 42).
     #[tactic(auto, unfolding(xq_ast::specs::Bindings::quantified))]
-    fn quantified(&self, at: usize) -> Result<(Tree, usize), ParseFault>
+    fn quantified(&self, at: usize) -> Result<(Boxed<Tree>, usize), ParseFault>
         requires { N.reads self.now.nested self.now.depth }
         ensures { Reads self.now.text.now self.now.depth rule.quantified at result }
     {
@@ -441,8 +433,9 @@ impl<'a, N: Nested> Grammar<'a, N> {
         let (quantifier, at) = self.quantifier(at)?;
         let (binds, at) = self.quant_binds(at)?;
         let at = sign(self.text, at, Due::Operator, Look::Satisfies)?;
-        let (test, at) = self.boxed_single(at)?;
-        Ok((Node::Quantified(offset, quantifier, binds, test), at))
+        let (test, at) = self.single(at)?;
+        let found = Node::Quantified(offset, quantifier, binds, test);
+        Ok((Boxed::new(self.alloc, found)?, at))
     }
 
     /// `if (` Expr `)`, with the offset of the condition.
@@ -455,7 +448,7 @@ impl<'a, N: Nested> Grammar<'a, N> {
         let at = sign(self.text, at, Due::Operator, Look::Open)?;
         let (test, at) = self.expr(at)?;
         let at = sign(self.text, at, Due::Operator, Look::Close)?;
-        Ok(((offset, Boxed::new(self.alloc, test)?), at))
+        Ok(((offset, test), at))
     }
 
     /// A condition up to its `else`.
@@ -465,25 +458,25 @@ impl<'a, N: Nested> Grammar<'a, N> {
     {
         let ((offset, test), at) = self.tested(at)?;
         let at = sign(self.text, at, Due::Operator, Look::Then)?;
-        let (yes, at) = self.boxed_single(at)?;
+        let (yes, at) = self.single(at)?;
         Ok(((offset, (test, yes)), at))
     }
 
     /// IfExpr (XQuery 1.0, production 45).
     #[tactic(auto, unfolding(xq_ast::specs::Bindings::conditional))]
-    fn conditional(&self, at: usize) -> Result<(Tree, usize), ParseFault>
+    fn conditional(&self, at: usize) -> Result<(Boxed<Tree>, usize), ParseFault>
         requires { N.reads self.now.nested self.now.depth }
         ensures { Reads self.now.text.now self.now.depth rule.conditional at result }
     {
         let ((offset, (test, yes)), at) = self.branched(at)?;
         let at = sign(self.text, at, Due::Operator, Look::Else)?;
-        let (no, at) = self.boxed_single(at)?;
-        Ok((Node::If(offset, test, yes, no), at))
+        let (no, at) = self.single(at)?;
+        Ok((Boxed::new(self.alloc, Node::If(offset, test, yes, no))?, at))
     }
 
     /// ExprSingle (XQuery 1.0, production 32).
     #[tactic(auto, unfolding(xq_ast::specs::Bindings::level))]
-    pub fn level(&self, at: usize) -> Result<(Tree, usize), ParseFault>
+    pub fn level(&self, at: usize) -> Result<(Boxed<Tree>, usize), ParseFault>
         requires { N.reads self.now.nested self.now.depth }
         ensures { Reads self.now.text.now self.now.depth rule.level at result }
     {

@@ -58,7 +58,7 @@ impl<'a, N: Nested> Grammar<'a, N> {
         let at = sign(self.text, at, due, Look::Brace)?;
         let (found, at) = self.expr(at)?;
         let at = sign(self.text, at, Due::Operator, Look::CloseBrace)?;
-        Ok((ValuePart::Brace(offset, Boxed::new(self.alloc, found)?), at))
+        Ok((ValuePart::Brace(offset, found), at))
     }
 
     /// A part of a value (XQuery 1.0, productions 99 to 101).
@@ -199,7 +199,7 @@ impl<'a, N: Nested> Grammar<'a, N> {
 
     /// DirCommentConstructor (XQuery 1.0, production 103).
     #[tactic(auto, using(crate::proofs::Parts::no_piece), unfolding(xq_ast::specs::Direct::comment))]
-    fn comment(&self, at: usize) -> Result<(Tree, usize), ParseFault>
+    fn comment(&self, at: usize) -> Result<(Boxed<Tree>, usize), ParseFault>
         requires { N.reads self.now.nested self.now.depth }
         ensures { Reads self.now.text.now self.now.depth rule.comment at result }
     {
@@ -208,12 +208,15 @@ impl<'a, N: Nested> Grammar<'a, N> {
         }
         let end = end_at(self.text, at, Due::Content);
         let found = lines_of(self.alloc, self.text, at + 4, end.saturating_sub(3))?;
-        Ok((Node::Comment(at as u64, found), end))
+        Ok((
+            Boxed::new(self.alloc, Node::Comment(at as u64, found))?,
+            end,
+        ))
     }
 
     /// DirPIConstructor (XQuery 1.0, production 105).
     #[tactic(auto, using(crate::proofs::Parts::no_piece), unfolding(xq_ast::specs::Direct::instruction))]
-    fn instruction(&self, at: usize) -> Result<(Tree, usize), ParseFault>
+    fn instruction(&self, at: usize) -> Result<(Boxed<Tree>, usize), ParseFault>
         requires { N.reads self.now.nested self.now.depth }
         ensures { Reads self.now.text.now self.now.depth rule.instruction at result }
     {
@@ -224,12 +227,13 @@ impl<'a, N: Nested> Grammar<'a, N> {
         let text = target(self.alloc, self.text, at)?;
         let value = instruction_value(self.alloc, self.text, at, end)?;
         let offset = at as u64;
-        Ok((Node::Instruction(offset, Name { offset, text }, value), end))
+        let found = Node::Instruction(offset, Name { offset, text }, value);
+        Ok((Boxed::new(self.alloc, found)?, end))
     }
 
     /// DirectConstructor (XQuery 1.0, production 95).
     #[tactic(auto, unfolding(xq_ast::specs::Direct::direct_here))]
-    fn direct_here(&self, at: usize) -> Result<(Tree, usize), ParseFault>
+    fn direct_here(&self, at: usize) -> Result<(Boxed<Tree>, usize), ParseFault>
         requires { N.reads self.now.nested self.now.depth }
         ensures { Reads self.now.text.now self.now.depth rule.direct_here at result }
     {
@@ -245,7 +249,7 @@ impl<'a, N: Nested> Grammar<'a, N> {
 
     /// DirectConstructor where an operand is due (XQuery 1.0, production 95).
     #[tactic(auto, unfolding(xq_ast::specs::Direct::direct))]
-    pub fn direct(&self, at: usize) -> Result<(Tree, usize), ParseFault>
+    pub fn direct(&self, at: usize) -> Result<(Boxed<Tree>, usize), ParseFault>
         requires { N.reads self.now.nested self.now.depth }
         ensures { Reads self.now.text.now self.now.depth rule.direct at result }
     {
@@ -264,7 +268,7 @@ impl<'a, N: Nested> Grammar<'a, N> {
         let at = sign(self.text, at, Due::Content, Look::Brace)?;
         let (found, at) = self.expr(at)?;
         let at = sign(self.text, at, Due::Operator, Look::CloseBrace)?;
-        Ok((Part::Brace(offset, Boxed::new(self.alloc, found)?), at))
+        Ok((Part::Brace(offset, found), at))
     }
 
     /// DirElemContent but for a run of characters (XQuery 1.0, production 101).
@@ -276,7 +280,7 @@ impl<'a, N: Nested> Grammar<'a, N> {
             return self.content_brace(at);
         }
         let (found, at) = self.direct_here(at)?;
-        Ok((Part::Inner(Boxed::new(self.alloc, found)?), at))
+        Ok((Part::Inner(found), at))
     }
 
     /// DirElemContent (XQuery 1.0, production 101).
@@ -360,7 +364,7 @@ impl<'a, N: Nested> Grammar<'a, N> {
 
     /// DirElemConstructor (XQuery 1.0, production 96).
     #[tactic(auto, unfolding(xq_ast::specs::Direct::elem))]
-    pub fn elem(&self, at: usize) -> Result<(Tree, usize), ParseFault>
+    pub fn elem(&self, at: usize) -> Result<(Boxed<Tree>, usize), ParseFault>
         requires { N.reads self.now.nested self.now.depth }
         ensures { Reads self.now.text.now self.now.depth rule.elem at result }
     {
@@ -372,6 +376,7 @@ impl<'a, N: Nested> Grammar<'a, N> {
         if !names_agree(&name, &closing) {
             return Err(ParseFault::Syntax);
         }
-        Ok((Node::Element(offset, name, attributes, content), at))
+        let found = Node::Element(offset, name, attributes, content);
+        Ok((Boxed::new(self.alloc, found)?, at))
     }
 }

@@ -31,7 +31,7 @@ pub trait Nested: Copy {
         text: &[u8],
         at: usize,
         depth: usize,
-    ) -> Result<(Tree, usize), ParseFault>
+    ) -> Result<(Boxed<Tree>, usize), ParseFault>
         requires { reads self depth }
         ensures { Gives (single_reads text.now depth at) result };
 
@@ -41,7 +41,7 @@ pub trait Nested: Copy {
         text: &[u8],
         at: usize,
         depth: usize,
-    ) -> Result<(Tree, usize), ParseFault>
+    ) -> Result<(Boxed<Tree>, usize), ParseFault>
         requires { reads self depth }
         ensures { Gives (element_reads text.now depth at) result };
 }
@@ -87,18 +87,23 @@ pub fn many<T: Drop, P: Fn(usize) -> Result<(T, usize), ParseFault>>(
 }
 
 /// Expressions with commas between them; one alone is itself.
-fn comma(alloc: Global, offset: u64, first: Tree, more: Items<Tree>) -> Result<Tree, AllocError>
+fn comma(
+    alloc: Global,
+    offset: u64,
+    first: Boxed<Tree>,
+    more: Items<Tree>,
+) -> Result<Boxed<Tree>, AllocError>
     ensures { IfOk result (λ e. e ≡ tree_.comma first more offset) }
 {
     if more.is_empty() {
         return Ok(first);
     }
-    Ok(Node::Comma(offset, Boxed::new(alloc, first)?, more))
+    Ok(Boxed::new(alloc, Node::Comma(offset, first, more))?)
 }
 
 impl<'a, N: Nested> Grammar<'a, N> {
     /// What nests, one level deeper: an ExprSingle.
-    pub fn single(&self, at: usize) -> Result<(Tree, usize), ParseFault>
+    pub fn single(&self, at: usize) -> Result<(Boxed<Tree>, usize), ParseFault>
         requires { N.reads self.now.nested self.now.depth }
         ensures { Gives (single_reads self.now.text.now self.now.depth at) result }
     {
@@ -106,7 +111,7 @@ impl<'a, N: Nested> Grammar<'a, N> {
     }
 
     /// What nests, one level deeper: a direct element.
-    pub fn element(&self, at: usize) -> Result<(Tree, usize), ParseFault>
+    pub fn element(&self, at: usize) -> Result<(Boxed<Tree>, usize), ParseFault>
         requires { N.reads self.now.nested self.now.depth }
         ensures { Gives (element_reads self.now.text.now self.now.depth at) result }
     {
@@ -128,14 +133,15 @@ impl<'a, N: Nested> Grammar<'a, N> {
                 requires { N.reads self.now.nested self.now.depth }
             {
                 let at = sign(self.text, at, Due::Operator, Look::Comma)?;
-                self.single(at)
+                let (found, at) = self.single(at)?;
+                Ok((found.into_inner(), at))
             },
         )
     }
 
     /// Expr (XQuery 1.0, section 3, production 31).
     #[tactic(auto, unfolding(xq_ast::specs::Terminals::expr))]
-    pub fn expr(&self, at: usize) -> Result<(Tree, usize), ParseFault>
+    pub fn expr(&self, at: usize) -> Result<(Boxed<Tree>, usize), ParseFault>
         requires { N.reads self.now.nested self.now.depth }
         ensures { Reads self.now.text.now self.now.depth rule.expr at result }
     {
@@ -147,7 +153,7 @@ impl<'a, N: Nested> Grammar<'a, N> {
 
     /// `{` Expr `}`, where an operator is due.
     #[tactic(auto, unfolding(xq_ast::specs::Terminals::block))]
-    pub fn block(&self, at: usize) -> Result<(Tree, usize), ParseFault>
+    pub fn block(&self, at: usize) -> Result<(Boxed<Tree>, usize), ParseFault>
         requires { N.reads self.now.nested self.now.depth }
         ensures { Reads self.now.text.now self.now.depth rule.block at result }
     {

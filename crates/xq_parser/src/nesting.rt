@@ -6,6 +6,7 @@ ghost use Rattle.xq_parser.specs.Outcomes.{Gives, Fails, Nests, single_reads, el
 use crate::fault::ParseFault;
 use crate::grammar::{Grammar, Nested, Tree};
 use crate::look::{looks, place, stands_one};
+use sqlite_items::Boxed;
 use std::alloc::Global;
 use xq_ast::look::{Due, Look};
 
@@ -17,8 +18,8 @@ pub struct Calls<F, G> {
 }
 
 impl<
-    F: Fn(Global, &[u8], usize, usize) -> Result<(Tree, usize), ParseFault> + Copy,
-    G: Fn(Global, &[u8], usize, usize) -> Result<(Tree, usize), ParseFault> + Copy,
+    F: Fn(Global, &[u8], usize, usize) -> Result<(Boxed<Tree>, usize), ParseFault> + Copy,
+    G: Fn(Global, &[u8], usize, usize) -> Result<(Boxed<Tree>, usize), ParseFault> + Copy,
 > Nested for Calls<F, G> {
     ghost reads = { λ s d. Nests d (F.pre s.single) (F.post s.single) (G.pre s.element) (G.post s.element) };
 
@@ -28,7 +29,7 @@ impl<
         text: &[u8],
         at: usize,
         depth: usize,
-    ) -> Result<(Tree, usize), ParseFault> {
+    ) -> Result<(Boxed<Tree>, usize), ParseFault> {
         (self.single)(alloc, text, at, depth)
     }
 
@@ -38,7 +39,7 @@ impl<
         text: &[u8],
         at: usize,
         depth: usize,
-    ) -> Result<(Tree, usize), ParseFault> {
+    ) -> Result<(Boxed<Tree>, usize), ParseFault> {
         (self.element)(alloc, text, at, depth)
     }
 }
@@ -51,7 +52,7 @@ pub fn single(
     text: &[u8],
     at: usize,
     depth: usize,
-) -> Result<(Tree, usize), ParseFault>
+) -> Result<(Boxed<Tree>, usize), ParseFault>
     ensures { Gives (single_reads text.now depth at) result }
 {
     if depth == 0 {
@@ -75,7 +76,7 @@ pub fn element(
     text: &[u8],
     at: usize,
     depth: usize,
-) -> Result<(Tree, usize), ParseFault>
+) -> Result<(Boxed<Tree>, usize), ParseFault>
     ensures { Gives (element_reads text.now depth at) result }
 {
     if depth == 0 {

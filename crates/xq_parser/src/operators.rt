@@ -68,22 +68,27 @@ fn operator_of(look: Look) -> Operator
 }
 
 /// A level of operators: what stands alone is itself.
-fn chained(alloc: Global, offset: u64, first: Tree, more: Rights) -> Result<Tree, AllocError>
+fn chained(
+    alloc: Global,
+    offset: u64,
+    first: Boxed<Tree>,
+    more: Rights,
+) -> Result<Boxed<Tree>, AllocError>
     ensures { IfOk result (λ e. e ≡ tree_.chained first more offset) }
 {
     if more.is_empty() {
         return Ok(first);
     }
-    Ok(Node::Chain(offset, Boxed::new(alloc, first)?, more))
+    Ok(Boxed::new(alloc, Node::Chain(offset, first, more))?)
 }
 
 /// An operator that doesn't repeat, or its first operand alone.
 fn compared(
     alloc: Global,
     offset: u64,
-    first: Tree,
+    first: Boxed<Tree>,
     second: Option<Right<Tree>>,
-) -> Result<Tree, AllocError>
+) -> Result<Boxed<Tree>, AllocError>
     ensures { IfOk result (λ e. e ≡ tree_.compared offset first second) }
 {
     match second {
@@ -91,7 +96,7 @@ fn compared(
         Some(right) => {
             let mut more = Items::new(alloc);
             more.push(right)?;
-            Ok(Node::Chain(offset, Boxed::new(alloc, first)?, more))
+            Ok(Boxed::new(alloc, Node::Chain(offset, first, more))?)
         }
     }
 }
@@ -101,33 +106,30 @@ fn signed(
     alloc: Global,
     offset: u64,
     signs: Items<Signed>,
-    operand: Tree,
-) -> Result<Tree, AllocError>
+    operand: Boxed<Tree>,
+) -> Result<Boxed<Tree>, AllocError>
     ensures { IfOk result (λ e. e ≡ tree_.signed offset signs operand) }
 {
     if signs.is_empty() {
         return Ok(operand);
     }
-    Ok(Node::Signed(offset, signs, Boxed::new(alloc, operand)?))
+    Ok(Boxed::new(alloc, Node::Signed(offset, signs, operand))?)
 }
 
 /// `cast as`, or its operand alone.
 fn cast_to(
     alloc: Global,
     offset: u64,
-    operand: Tree,
+    operand: Boxed<Tree>,
     kind: Option<(ReadName, bool)>,
-) -> Result<Tree, AllocError>
+) -> Result<Boxed<Tree>, AllocError>
     ensures { IfOk result (λ e. e ≡ tree_.typed (tree_.cast_to node_.Cast) offset operand kind) }
 {
     match kind {
         None => Ok(operand),
-        Some((name, optional)) => Ok(Node::Cast(
-            offset,
-            Boxed::new(alloc, operand)?,
-            name,
-            optional,
-        )),
+        Some((name, optional)) => {
+            Ok(Boxed::new(alloc, Node::Cast(offset, operand, name, optional))?)
+        }
     }
 }
 
@@ -135,15 +137,15 @@ fn cast_to(
 fn castable_to(
     alloc: Global,
     offset: u64,
-    operand: Tree,
+    operand: Boxed<Tree>,
     kind: Option<(ReadName, bool)>,
-) -> Result<Tree, AllocError>
+) -> Result<Boxed<Tree>, AllocError>
     ensures { IfOk result (λ e. e ≡ tree_.typed (tree_.cast_to node_.Castable) offset operand kind) }
 {
     match kind {
         None => Ok(operand),
         Some((name, optional)) => {
-            Ok(Node::Castable(offset, Boxed::new(alloc, operand)?, name, optional))
+            Ok(Boxed::new(alloc, Node::Castable(offset, operand, name, optional))?)
         }
     }
 }
@@ -152,14 +154,14 @@ fn castable_to(
 fn treated(
     alloc: Global,
     offset: u64,
-    operand: Tree,
+    operand: Boxed<Tree>,
     ty: Option<ReadType>,
-) -> Result<Tree, AllocError>
+) -> Result<Boxed<Tree>, AllocError>
     ensures { IfOk result (λ e. e ≡ tree_.typed node_.Treat offset operand ty) }
 {
     match ty {
         None => Ok(operand),
-        Some(ty) => Ok(Node::Treat(offset, Boxed::new(alloc, operand)?, ty)),
+        Some(ty) => Ok(Boxed::new(alloc, Node::Treat(offset, operand, ty))?),
     }
 }
 
@@ -167,14 +169,14 @@ fn treated(
 fn instance_of(
     alloc: Global,
     offset: u64,
-    operand: Tree,
+    operand: Boxed<Tree>,
     ty: Option<ReadType>,
-) -> Result<Tree, AllocError>
+) -> Result<Boxed<Tree>, AllocError>
     ensures { IfOk result (λ e. e ≡ tree_.typed node_.Instance offset operand ty) }
 {
     match ty {
         None => Ok(operand),
-        Some(ty) => Ok(Node::Instance(offset, Boxed::new(alloc, operand)?, ty)),
+        Some(ty) => Ok(Boxed::new(alloc, Node::Instance(offset, operand, ty))?),
     }
 }
 
@@ -255,7 +257,7 @@ impl<'a, N: Nested> Grammar<'a, N> {
 
     /// UnaryExpr; its offset is that of the first sign (XQuery 1.0, production 58).
     #[tactic(auto, unfolding(xq_ast::specs::Operators::unary))]
-    fn unary(&self, at: usize) -> Result<(Tree, usize), ParseFault>
+    fn unary(&self, at: usize) -> Result<(Boxed<Tree>, usize), ParseFault>
         requires { N.reads self.now.nested self.now.depth }
         ensures { Reads self.now.text.now self.now.depth rule.unary at result }
     {
@@ -296,7 +298,7 @@ impl<'a, N: Nested> Grammar<'a, N> {
 
     /// CastExpr (XQuery 1.0, production 57).
     #[tactic(auto, unfolding(xq_ast::specs::Operators::cast))]
-    fn cast(&self, at: usize) -> Result<(Tree, usize), ParseFault>
+    fn cast(&self, at: usize) -> Result<(Boxed<Tree>, usize), ParseFault>
         requires { N.reads self.now.nested self.now.depth }
         ensures { Reads self.now.text.now self.now.depth rule.cast at result }
     {
@@ -323,7 +325,7 @@ impl<'a, N: Nested> Grammar<'a, N> {
 
     /// CastableExpr (XQuery 1.0, production 56).
     #[tactic(auto, unfolding(xq_ast::specs::Operators::castable))]
-    fn castable(&self, at: usize) -> Result<(Tree, usize), ParseFault>
+    fn castable(&self, at: usize) -> Result<(Boxed<Tree>, usize), ParseFault>
         requires { N.reads self.now.nested self.now.depth }
         ensures { Reads self.now.text.now self.now.depth rule.castable at result }
     {
@@ -350,7 +352,7 @@ impl<'a, N: Nested> Grammar<'a, N> {
 
     /// TreatExpr (XQuery 1.0, production 55).
     #[tactic(auto, unfolding(xq_ast::specs::Operators::treat))]
-    fn treat(&self, at: usize) -> Result<(Tree, usize), ParseFault>
+    fn treat(&self, at: usize) -> Result<(Boxed<Tree>, usize), ParseFault>
         requires { N.reads self.now.nested self.now.depth }
         ensures { Reads self.now.text.now self.now.depth rule.treat at result }
     {
@@ -377,7 +379,7 @@ impl<'a, N: Nested> Grammar<'a, N> {
 
     /// InstanceofExpr (XQuery 1.0, production 54).
     #[tactic(auto, unfolding(xq_ast::specs::Operators::instance))]
-    fn instance(&self, at: usize) -> Result<(Tree, usize), ParseFault>
+    fn instance(&self, at: usize) -> Result<(Boxed<Tree>, usize), ParseFault>
         requires { N.reads self.now.nested self.now.depth }
         ensures { Reads self.now.text.now self.now.depth rule.instance at result }
     {
@@ -403,6 +405,7 @@ impl<'a, N: Nested> Grammar<'a, N> {
             {
                 let (operator, at) = self.operator_in(at, &[Look::Intersect, Look::Except])?;
                 let (operand, at) = self.instance(at)?;
+                let operand = operand.into_inner();
                 Ok((Right { operator, operand }, at))
             },
         )
@@ -410,7 +413,7 @@ impl<'a, N: Nested> Grammar<'a, N> {
 
     /// IntersectExceptExpr (XQuery 1.0, production 53).
     #[tactic(auto, unfolding(xq_ast::specs::Operators::intersect))]
-    fn intersect(&self, at: usize) -> Result<(Tree, usize), ParseFault>
+    fn intersect(&self, at: usize) -> Result<(Boxed<Tree>, usize), ParseFault>
         requires { N.reads self.now.nested self.now.depth }
         ensures { Reads self.now.text.now self.now.depth rule.intersect at result }
     {
@@ -436,6 +439,7 @@ impl<'a, N: Nested> Grammar<'a, N> {
             {
                 let (operator, at) = self.operator_in(at, &[Look::Union, Look::Bar])?;
                 let (operand, at) = self.intersect(at)?;
+                let operand = operand.into_inner();
                 Ok((Right { operator, operand }, at))
             },
         )
@@ -443,7 +447,7 @@ impl<'a, N: Nested> Grammar<'a, N> {
 
     /// UnionExpr (XQuery 1.0, production 52).
     #[tactic(auto, unfolding(xq_ast::specs::Operators::union))]
-    fn union(&self, at: usize) -> Result<(Tree, usize), ParseFault>
+    fn union(&self, at: usize) -> Result<(Boxed<Tree>, usize), ParseFault>
         requires { N.reads self.now.nested self.now.depth }
         ensures { Reads self.now.text.now self.now.depth rule.union at result }
     {
@@ -484,6 +488,7 @@ impl<'a, N: Nested> Grammar<'a, N> {
             {
                 let (operator, at) = self.times(at)?;
                 let (operand, at) = self.union(at)?;
+                let operand = operand.into_inner();
                 Ok((Right { operator, operand }, at))
             },
         )
@@ -491,7 +496,7 @@ impl<'a, N: Nested> Grammar<'a, N> {
 
     /// MultiplicativeExpr (XQuery 1.0, production 51).
     #[tactic(auto, unfolding(xq_ast::specs::Operators::multiplied))]
-    fn multiplied(&self, at: usize) -> Result<(Tree, usize), ParseFault>
+    fn multiplied(&self, at: usize) -> Result<(Boxed<Tree>, usize), ParseFault>
         requires { N.reads self.now.nested self.now.depth }
         ensures { Reads self.now.text.now self.now.depth rule.multiplied at result }
     {
@@ -517,6 +522,7 @@ impl<'a, N: Nested> Grammar<'a, N> {
             {
                 let (operator, at) = self.operator_in(at, &[Look::Plus, Look::Minus])?;
                 let (operand, at) = self.multiplied(at)?;
+                let operand = operand.into_inner();
                 Ok((Right { operator, operand }, at))
             },
         )
@@ -524,7 +530,7 @@ impl<'a, N: Nested> Grammar<'a, N> {
 
     /// AdditiveExpr (XQuery 1.0, production 50).
     #[tactic(auto, unfolding(xq_ast::specs::Operators::added))]
-    fn added(&self, at: usize) -> Result<(Tree, usize), ParseFault>
+    fn added(&self, at: usize) -> Result<(Boxed<Tree>, usize), ParseFault>
         requires { N.reads self.now.nested self.now.depth }
         ensures { Reads self.now.text.now self.now.depth rule.added at result }
     {
@@ -545,12 +551,13 @@ impl<'a, N: Nested> Grammar<'a, N> {
         }
         let (operator, at) = self.operator_in(at, &[Look::To])?;
         let (operand, at) = self.added(at)?;
+        let operand = operand.into_inner();
         Ok((Some(Right { operator, operand }), at))
     }
 
     /// RangeExpr (XQuery 1.0, production 49).
     #[tactic(auto, unfolding(xq_ast::specs::Operators::range))]
-    fn range(&self, at: usize) -> Result<(Tree, usize), ParseFault>
+    fn range(&self, at: usize) -> Result<(Boxed<Tree>, usize), ParseFault>
         requires { N.reads self.now.nested self.now.depth }
         ensures { Reads self.now.text.now self.now.depth rule.range at result }
     {
@@ -586,6 +593,7 @@ impl<'a, N: Nested> Grammar<'a, N> {
             ],
         )?;
         let (operand, at) = self.range(at)?;
+        let operand = operand.into_inner();
         Ok((Right { operator, operand }, at))
     }
 
@@ -604,7 +612,7 @@ impl<'a, N: Nested> Grammar<'a, N> {
 
     /// ComparisonExpr (XQuery 1.0, production 48).
     #[tactic(auto, unfolding(xq_ast::specs::Operators::comparison))]
-    fn comparison(&self, at: usize) -> Result<(Tree, usize), ParseFault>
+    fn comparison(&self, at: usize) -> Result<(Boxed<Tree>, usize), ParseFault>
         requires { N.reads self.now.nested self.now.depth }
         ensures { Reads self.now.text.now self.now.depth rule.comparison at result }
     {
@@ -630,6 +638,7 @@ impl<'a, N: Nested> Grammar<'a, N> {
             {
                 let (operator, at) = self.operator_in(at, &[Look::And])?;
                 let (operand, at) = self.comparison(at)?;
+                let operand = operand.into_inner();
                 Ok((Right { operator, operand }, at))
             },
         )
@@ -637,7 +646,7 @@ impl<'a, N: Nested> Grammar<'a, N> {
 
     /// AndExpr (XQuery 1.0, production 47).
     #[tactic(auto, unfolding(xq_ast::specs::Operators::conjunction))]
-    fn conjunction(&self, at: usize) -> Result<(Tree, usize), ParseFault>
+    fn conjunction(&self, at: usize) -> Result<(Boxed<Tree>, usize), ParseFault>
         requires { N.reads self.now.nested self.now.depth }
         ensures { Reads self.now.text.now self.now.depth rule.conjunction at result }
     {
@@ -663,6 +672,7 @@ impl<'a, N: Nested> Grammar<'a, N> {
             {
                 let (operator, at) = self.operator_in(at, &[Look::Or])?;
                 let (operand, at) = self.conjunction(at)?;
+                let operand = operand.into_inner();
                 Ok((Right { operator, operand }, at))
             },
         )
@@ -670,7 +680,7 @@ impl<'a, N: Nested> Grammar<'a, N> {
 
     /// The top of the levels of operators (XQuery 1.0, production 46).
     #[tactic(auto, unfolding(xq_ast::specs::Operators::disjunction))]
-    pub fn disjunction(&self, at: usize) -> Result<(Tree, usize), ParseFault>
+    pub fn disjunction(&self, at: usize) -> Result<(Boxed<Tree>, usize), ParseFault>
         requires { N.reads self.now.nested self.now.depth }
         ensures { Reads self.now.text.now self.now.depth rule.disjunction at result }
     {

@@ -13,7 +13,7 @@ use crate::grammar::{Grammar, Nested};
 use crate::look::looks;
 use crate::nesting::{Calls, element, single};
 use crate::text::{after_mark, is_text};
-use sqlite_items::{Boxed, Items};
+use sqlite_items::Items;
 use std::alloc::Global;
 use xq_ast::look::{Due, Look};
 use xq_ast::node::AsRead;
@@ -45,7 +45,6 @@ impl<'a, N: Nested> Grammar<'a, N> {
         if !looks(self.text, at, Due::Operator, Look::End) {
             return Err(ParseFault::Syntax);
         }
-        let body = Boxed::new(self.alloc, body)?;
         Ok((
             Query {
                 version,

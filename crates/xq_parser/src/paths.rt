@@ -1,5 +1,5 @@
 //! Paths (XQuery 1.0, section 3.2).
-ghost use Rattle.std.specs.Prelude.{◌≡◌, if◌then◌else◌, codes};
+ghost use Rattle.std.specs.Prelude.{◌≡◌, if◌then◌else◌, codes, IfOk};
 ghost use Rattle.xq_base.specs.declared.axis.Axis.TheVariants as axis_;
 ghost use Rattle.xq_ast.specs.Bytes.{same};
 ghost use Rattle.xq_ast.specs.declared.look.Due.TheVariants as due_;
@@ -18,6 +18,7 @@ use crate::terminals::{left, name, sign};
 use crate::types::begins_kind;
 use crate::words::same;
 use sqlite_items::{Boxed, Items};
+use std::alloc::{AllocError, Global};
 use xq_ast::leaf::{KindTest, Test};
 use xq_ast::look::{Due, Look};
 use xq_ast::node::{Behind, Node, Slashes, Start, Step, StepKind};
@@ -83,8 +84,12 @@ fn kind_step(found: KindTest<Bytes>) -> TreeKind
 }
 
 /// A path that begins with its first step; a primary alone is no path.
-fn path_here(first: TreeStep, more: Items<TreeBehind>) -> Tree
-    ensures { result ≡ tree_.path_here first more }
+fn path_here(
+    alloc: Global,
+    first: TreeStep,
+    more: Items<TreeBehind>,
+) -> Result<Boxed<Tree>, AllocError>
+    ensures { IfOk result (λ e. e ≡ tree_.path_here first more) }
 {
     let Step {
         offset,
@@ -93,14 +98,14 @@ fn path_here(first: TreeStep, more: Items<TreeBehind>) -> Tree
     } = first;
     let alone = more.is_empty() && predicates.is_empty();
     match kind {
-        StepKind::Primary(e) if alone => e.into_inner(),
+        StepKind::Primary(e) if alone => Ok(e),
         kind => {
             let step = Step {
                 offset,
                 kind,
                 predicates,
             };
-            Node::Path(Start::Here, step, more)
+            Ok(Boxed::new(alloc, Node::Path(Start::Here, step, more))?)
         }
     }
 }
@@ -166,7 +171,7 @@ impl<'a, N: Nested> Grammar<'a, N> {
         let at = sign(self.text, at, Due::Operator, Look::OpenBracket)?;
         let (found, at) = self.expr(at)?;
         let at = sign(self.text, at, Due::Operator, Look::CloseBracket)?;
-        Ok((found, at))
+        Ok((found.into_inner(), at))
     }
 
     /// The predicates of a step.
@@ -276,7 +281,7 @@ impl<'a, N: Nested> Grammar<'a, N> {
         ensures { Reads self.now.text.now self.now.depth (make step_.Primary & primary) at result }
     {
         let (found, at) = self.primary(at)?;
-        Ok((StepKind::Primary(Boxed::new(self.alloc, found)?), at))
+        Ok((StepKind::Primary(found), at))
     }
 
     /// A step, or a primary expression as one, without its predicates (XQuery 1.0, production 70).
@@ -370,45 +375,47 @@ impl<'a, N: Nested> Grammar<'a, N> {
 
     /// `/` and a path, or `/` alone where no step can begin (XQuery 1.0, production 68).
     #[tactic(auto, unfolding(xq_ast::specs::Paths::root))]
-    fn root(&self, at: usize) -> Result<(Tree, usize), ParseFault>
+    fn root(&self, at: usize) -> Result<(Boxed<Tree>, usize), ParseFault>
         requires { N.reads self.now.nested self.now.depth }
         ensures { Reads self.now.text.now self.now.depth rule.root at result }
     {
         let offset = place(self.text, at) as u64;
         let at = sign(self.text, at, Due::Operand, Look::Slash)?;
         if !begins_step(self.text, at) {
-            return Ok((Node::Root(offset), at));
+            return Ok((Boxed::new(self.alloc, Node::Root(offset))?, at));
         }
         let (first, at) = self.step(at)?;
         let (more, at) = self.more_steps(at)?;
-        Ok((Node::Path(Start::Root(offset), first, more), at))
+        let found = Boxed::new(self.alloc, Node::Path(Start::Root(offset), first, more))?;
+        Ok((found, at))
     }
 
     /// `//` and a path (XQuery 1.0, production 68).
     #[tactic(auto, unfolding(xq_ast::specs::Paths::deep_root))]
-    fn deep_root(&self, at: usize) -> Result<(Tree, usize), ParseFault>
+    fn deep_root(&self, at: usize) -> Result<(Boxed<Tree>, usize), ParseFault>
         requires { N.reads self.now.nested self.now.depth }
         ensures { Reads self.now.text.now self.now.depth rule.deep_root at result }
     {
         let (offset, at) = self.two(at, Due::Operand)?;
         let (first, at) = self.step(at)?;
         let (more, at) = self.more_steps(at)?;
-        Ok((Node::Path(Start::Deep(offset), first, more), at))
+        let found = Boxed::new(self.alloc, Node::Path(Start::Deep(offset), first, more))?;
+        Ok((found, at))
     }
 
     /// A path that begins with its first step, or a primary alone.
-    fn relative(&self, at: usize) -> Result<(Tree, usize), ParseFault>
+    fn relative(&self, at: usize) -> Result<(Boxed<Tree>, usize), ParseFault>
         requires { N.reads self.now.nested self.now.depth }
         ensures { Reads self.now.text.now self.now.depth (rule.relative tree_.path_here) at result }
     {
         let (first, at) = self.step(at)?;
         let (more, at) = self.more_steps(at)?;
-        Ok((path_here(first, more), at))
+        Ok((path_here(self.alloc, first, more)?, at))
     }
 
     /// A path, or what stands for one (XQuery 1.0, production 68).
     #[tactic(auto, unfolding(xq_ast::specs::Paths::path))]
-    pub fn path(&self, at: usize) -> Result<(Tree, usize), ParseFault>
+    pub fn path(&self, at: usize) -> Result<(Boxed<Tree>, usize), ParseFault>
         requires { N.reads self.now.nested self.now.depth }
         ensures { Reads self.now.text.now self.now.depth rule.path at result }
     {

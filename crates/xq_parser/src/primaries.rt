@@ -56,36 +56,36 @@ fn begins_builder(text: &[u8], at: usize) -> bool
 impl<'a, N: Nested> Grammar<'a, N> {
     /// IntegerLiteral (XQuery 1.0, production 141).
     #[tactic(auto, unfolding(xq_ast::specs::Primaries::integer))]
-    fn integer(&self, at: usize) -> Result<(Tree, usize), ParseFault>
+    fn integer(&self, at: usize) -> Result<(Boxed<Tree>, usize), ParseFault>
         requires { N.reads self.now.nested self.now.depth }
         ensures { Reads self.now.text.now self.now.depth rule.integer at result }
     {
         let offset = place(self.text, at) as u64;
         let (found, at) = text_at(self.alloc, self.text, at, Due::Operand, Look::Integer)?;
-        Ok((Node::Integer(offset, found), at))
+        Ok((Boxed::new(self.alloc, Node::Integer(offset, found))?, at))
     }
 
     /// StringLiteral (XQuery 1.0, production 144).
     #[tactic(auto, unfolding(xq_ast::specs::Primaries::literal))]
-    fn literal(&self, at: usize) -> Result<(Tree, usize), ParseFault>
+    fn literal(&self, at: usize) -> Result<(Boxed<Tree>, usize), ParseFault>
         requires { N.reads self.now.nested self.now.depth }
         ensures { Reads self.now.text.now self.now.depth rule.literal at result }
     {
         let (found, at) = string(self.alloc, self.text, at, Due::Operand)?;
         let Name { offset, text } = found;
-        Ok((Node::Text(offset, text), at))
+        Ok((Boxed::new(self.alloc, Node::Text(offset, text))?, at))
     }
 
     /// VarRef (XQuery 1.0, production 87).
     #[tactic(auto, unfolding(xq_ast::specs::Primaries::var))]
-    fn var(&self, at: usize) -> Result<(Tree, usize), ParseFault>
+    fn var(&self, at: usize) -> Result<(Boxed<Tree>, usize), ParseFault>
         requires { N.reads self.now.nested self.now.depth }
         ensures { Reads self.now.text.now self.now.depth rule.var at result }
     {
         let offset = place(self.text, at) as u64;
         let at = sign(self.text, at, Due::Operand, Look::Dollar)?;
         let (found, at) = name(self.alloc, self.text, at, Due::Named, Look::Name)?;
-        Ok((Node::Var(offset, found), at))
+        Ok((Boxed::new(self.alloc, Node::Var(offset, found))?, at))
     }
 
     /// What parentheses hold, and the closing one.
@@ -100,30 +100,30 @@ impl<'a, N: Nested> Grammar<'a, N> {
         }
         let (found, at) = self.expr(at)?;
         let at = sign(self.text, at, Due::Operator, Look::Close)?;
-        Ok((Some(Boxed::new(self.alloc, found)?), at))
+        Ok((Some(found), at))
     }
 
     /// ParenthesizedExpr (XQuery 1.0, production 89).
     #[tactic(auto, unfolding(xq_ast::specs::Primaries::paren))]
-    fn paren(&self, at: usize) -> Result<(Tree, usize), ParseFault>
+    fn paren(&self, at: usize) -> Result<(Boxed<Tree>, usize), ParseFault>
         requires { N.reads self.now.nested self.now.depth }
         ensures { Reads self.now.text.now self.now.depth rule.paren at result }
     {
         let offset = place(self.text, at) as u64;
         let at = sign(self.text, at, Due::Operand, Look::Open)?;
         let (found, at) = self.inside(at)?;
-        Ok((Node::Paren(offset, found), at))
+        Ok((Boxed::new(self.alloc, Node::Paren(offset, found))?, at))
     }
 
     /// ContextItemExpr (XQuery 1.0, production 90).
     #[tactic(auto, unfolding(xq_ast::specs::Primaries::dot))]
-    fn dot(&self, at: usize) -> Result<(Tree, usize), ParseFault>
+    fn dot(&self, at: usize) -> Result<(Boxed<Tree>, usize), ParseFault>
         requires { N.reads self.now.nested self.now.depth }
         ensures { Reads self.now.text.now self.now.depth rule.dot at result }
     {
         let offset = place(self.text, at) as u64;
         let at = sign(self.text, at, Due::Operand, Look::Dot)?;
-        Ok((Node::Dot(offset), at))
+        Ok((Boxed::new(self.alloc, Node::Dot(offset))?, at))
     }
 
     /// ExprSingles with commas between them.
@@ -134,7 +134,7 @@ impl<'a, N: Nested> Grammar<'a, N> {
         let (first, at) = self.single(at)?;
         let (more, at) = self.more_singles(at)?;
         let mut found = Items::new(self.alloc);
-        found.push(first)?;
+        found.push(first.into_inner())?;
         found.append(more)?;
         Ok((found, at))
     }
@@ -156,7 +156,7 @@ impl<'a, N: Nested> Grammar<'a, N> {
 
     /// FunctionCall (XQuery 1.0, production 93).
     #[tactic(auto, unfolding(xq_ast::specs::Primaries::call))]
-    fn call(&self, at: usize) -> Result<(Tree, usize), ParseFault>
+    fn call(&self, at: usize) -> Result<(Boxed<Tree>, usize), ParseFault>
         requires { N.reads self.now.nested self.now.depth }
         ensures { Reads self.now.text.now self.now.depth rule.call at result }
     {
@@ -164,7 +164,10 @@ impl<'a, N: Nested> Grammar<'a, N> {
         let (called, at) = name(self.alloc, self.text, at, Due::Operand, Look::Callee)?;
         let at = sign(self.text, at, Due::Operator, Look::Open)?;
         let (arguments, at) = self.arguments(at)?;
-        Ok((Node::Call(offset, called, arguments), at))
+        Ok((
+            Boxed::new(self.alloc, Node::Call(offset, called, arguments))?,
+            at,
+        ))
     }
 
     /// A name that is computed: `{` Expr `}` where a name might stand.
@@ -175,7 +178,7 @@ impl<'a, N: Nested> Grammar<'a, N> {
         let at = sign(self.text, at, Due::Named, Look::OpenBrace)?;
         let (found, at) = self.expr(at)?;
         let at = sign(self.text, at, Due::Operator, Look::CloseBrace)?;
-        Ok((BuildName::Computed(Boxed::new(self.alloc, found)?), at))
+        Ok((BuildName::Computed(found), at))
     }
 
     /// The name of an element or an attribute: QName, or computed.
@@ -215,7 +218,7 @@ impl<'a, N: Nested> Grammar<'a, N> {
         }
         let (found, at) = self.expr(at)?;
         let at = sign(self.text, at, Due::Operator, Look::CloseBrace)?;
-        Ok((Some(Boxed::new(self.alloc, found)?), at))
+        Ok((Some(found), at))
     }
 
     /// The content of a constructor in its braces, or none.
@@ -242,7 +245,7 @@ impl<'a, N: Nested> Grammar<'a, N> {
 
     /// CompElemConstructor, CompAttrConstructor (XQuery 1.0, productions 111 and 113).
     #[tactic(auto, unfolding(xq_ast::specs::Primaries::named_builder))]
-    fn named_builder(&self, at: usize) -> Result<(Tree, usize), ParseFault>
+    fn named_builder(&self, at: usize) -> Result<(Boxed<Tree>, usize), ParseFault>
         requires { N.reads self.now.nested self.now.depth }
         ensures { Reads self.now.text.now self.now.depth rule.named_builder at result }
     {
@@ -250,12 +253,15 @@ impl<'a, N: Nested> Grammar<'a, N> {
         let (kind, at) = self.build_word(at, &[Look::ElementBuilder, Look::AttributeBuilder])?;
         let (name, at) = self.build_name(at)?;
         let (content, at) = self.build_content(at)?;
-        Ok((Node::Build(offset, kind, name, content), at))
+        Ok((
+            Boxed::new(self.alloc, Node::Build(offset, kind, name, content))?,
+            at,
+        ))
     }
 
     /// CompPIConstructor (XQuery 1.0, production 116).
     #[tactic(auto, unfolding(xq_ast::specs::Primaries::instruction_builder))]
-    fn instruction_builder(&self, at: usize) -> Result<(Tree, usize), ParseFault>
+    fn instruction_builder(&self, at: usize) -> Result<(Boxed<Tree>, usize), ParseFault>
         requires { N.reads self.now.nested self.now.depth }
         ensures { Reads self.now.text.now self.now.depth rule.instruction_builder at result }
     {
@@ -263,12 +269,15 @@ impl<'a, N: Nested> Grammar<'a, N> {
         let (kind, at) = self.build_word(at, &[Look::InstructionBuilder])?;
         let (name, at) = self.target_name(at)?;
         let (content, at) = self.build_content(at)?;
-        Ok((Node::Build(offset, kind, name, content), at))
+        Ok((
+            Boxed::new(self.alloc, Node::Build(offset, kind, name, content))?,
+            at,
+        ))
     }
 
     /// CompDocConstructor, CompTextConstructor, CompCommentConstructor (XQuery 1.0, productions 110, 114 and 115).
     #[tactic(auto, unfolding(xq_ast::specs::Primaries::block_builder))]
-    fn block_builder(&self, at: usize) -> Result<(Tree, usize), ParseFault>
+    fn block_builder(&self, at: usize) -> Result<(Boxed<Tree>, usize), ParseFault>
         requires { N.reads self.now.nested self.now.depth }
         ensures { Reads self.now.text.now self.now.depth rule.block_builder at result }
     {
@@ -280,16 +289,13 @@ impl<'a, N: Nested> Grammar<'a, N> {
         ];
         let (kind, at) = self.build_word(at, &kinds)?;
         let (content, at) = self.block(at)?;
-        let content = Boxed::new(self.alloc, content)?;
-        Ok((
-            Node::Build(offset, kind, BuildName::Absent, Some(content)),
-            at,
-        ))
+        let found = Node::Build(offset, kind, BuildName::Absent, Some(content));
+        Ok((Boxed::new(self.alloc, found)?, at))
     }
 
     /// ComputedConstructor (XQuery 1.0, production 109).
     #[tactic(auto, unfolding(xq_ast::specs::Primaries::builder))]
-    fn builder(&self, at: usize) -> Result<(Tree, usize), ParseFault>
+    fn builder(&self, at: usize) -> Result<(Boxed<Tree>, usize), ParseFault>
         requires { N.reads self.now.nested self.now.depth }
         ensures { Reads self.now.text.now self.now.depth rule.builder at result }
     {
@@ -304,7 +310,7 @@ impl<'a, N: Nested> Grammar<'a, N> {
     }
 
     /// What is left out where an operand is due, or no primary expression.
-    fn left_primary(&self, at: usize) -> Result<(Tree, usize), ParseFault>
+    fn left_primary(&self, at: usize) -> Result<(Boxed<Tree>, usize), ParseFault>
         ensures { Reads self.now.text.now self.now.depth (terminal.left due_.Operand (k.LeftOut ∷ k.Decimal ∷ k.Fraction ∷ rule.left_signs)) at result }
     {
         let kinds = [
@@ -320,7 +326,7 @@ impl<'a, N: Nested> Grammar<'a, N> {
 
     /// A primary expression (XQuery 1.0, production 84).
     #[tactic(auto, unfolding(xq_ast::specs::Primaries::primary))]
-    pub fn primary(&self, at: usize) -> Result<(Tree, usize), ParseFault>
+    pub fn primary(&self, at: usize) -> Result<(Boxed<Tree>, usize), ParseFault>
         requires { N.reads self.now.nested self.now.depth }
         ensures { Reads self.now.text.now self.now.depth rule.primary at result }
     {

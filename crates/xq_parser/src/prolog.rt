@@ -106,7 +106,7 @@ impl<'a, N: Nested> Grammar<'a, N> {
 
     /// The value of a variable; `external` is left out.
     #[tactic(auto, unfolding(xq_ast::specs::Grammar::initial))]
-    fn initial(&self, at: usize) -> Result<(Tree, usize), ParseFault>
+    fn initial(&self, at: usize) -> Result<(Boxed<Tree>, usize), ParseFault>
         requires { N.reads self.now.nested self.now.depth }
         ensures { Reads self.now.text.now self.now.depth rule.initial at result }
     {
@@ -129,7 +129,6 @@ impl<'a, N: Nested> Grammar<'a, N> {
         let (var, at) = self.variable(at)?;
         let (ty, at) = self.maybe_typ(at)?;
         let (value, at) = self.initial(at)?;
-        let value = Boxed::new(self.alloc, value)?;
         Ok((Declaration::Var(offset, var, ty, value), at))
     }
 
@@ -181,7 +180,7 @@ impl<'a, N: Nested> Grammar<'a, N> {
 
     /// The body of a function; `external` is left out.
     #[tactic(auto, unfolding(xq_ast::specs::Grammar::body))]
-    fn body(&self, at: usize) -> Result<(Tree, usize), ParseFault>
+    fn body(&self, at: usize) -> Result<(Boxed<Tree>, usize), ParseFault>
         requires { N.reads self.now.nested self.now.depth }
         ensures { Reads self.now.text.now self.now.depth rule.body at result }
     {
@@ -205,7 +204,6 @@ impl<'a, N: Nested> Grammar<'a, N> {
         let (params, at) = self.params(at)?;
         let (ty, at) = self.maybe_typ(at)?;
         let (body, at) = self.body(at)?;
-        let body = Boxed::new(self.alloc, body)?;
         Ok((Declaration::Fun(offset, name, params, ty, body), at))
     }
 
