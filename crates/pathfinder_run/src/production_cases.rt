@@ -331,13 +331,19 @@ const FLWOR: Cases = &[
     (b"for $x as xs:integer in 1 return 2", Read::Accepted),
     (b"let $x := 1 return 2", Read::Accepted),
     (b"let $x as item()* := 1 return 2", Read::Accepted),
-    (b"for $x in 1, $y in 2 let $z := 1 where 1 return 2", Read::Accepted),
+    (
+        b"for $x in 1, $y in 2 let $z := 1 where 1 return 2",
+        Read::Accepted,
+    ),
     (b"for $x in 1", Read::Refused),
     (b"for x in 1", Read::Refused),
     (b"1 + for $x in 1 return 2", Read::Refused),
     (b"for", Read::Accepted),
     (b"let", Read::Accepted),
-    (b"for $x in 1 let $y := 2 for $z in 3 return 4", Read::Accepted),
+    (
+        b"for $x in 1 let $y := 2 for $z in 3 return 4",
+        Read::Accepted,
+    ),
     (b"let $x = 1 return 2", Read::Refused),
     (b"for $x in 1, return 2", Read::Refused),
     (b"for $x in 1 where return 2", Read::Refused),
@@ -347,15 +353,24 @@ const FLWOR: Cases = &[
 /// OrderByClause (XQuery 1.0, section 3.8.3).
 const ORDERS: Cases = &[
     (b"for $x in 1 order by 1 return 2", Read::Accepted),
-    (b"for $x in 1 stable order by 1 descending empty greatest, 2 return 2", Read::Accepted),
-    (b"for $x in 1 order by 1 collation 'a' return 2", Read::LeftOut),
+    (
+        b"for $x in 1 stable order by 1 descending empty greatest, 2 return 2",
+        Read::Accepted,
+    ),
+    (
+        b"for $x in 1 order by 1 collation 'a' return 2",
+        Read::LeftOut,
+    ),
     (b"for $x in 1 order by 1 empty return 2", Read::Refused),
 ];
 
 /// QuantifiedExpr and IfExpr (XQuery 1.0, sections 3.10 and 3.11).
 const QUANTIFIERS: Cases = &[
     (b"some $x in 1 satisfies 2", Read::Accepted),
-    (b"every $x as item() in 1, $y in 2 satisfies 3", Read::Accepted),
+    (
+        b"every $x as item() in 1, $y in 2 satisfies 3",
+        Read::Accepted,
+    ),
     (b"some $x in 1", Read::Refused),
     (b"if (1) then 2 else 3", Read::Accepted),
     (b"if (1) then 2", Read::Refused),
@@ -437,7 +452,10 @@ const PROLOGS: Cases = &[
     (b"declare variable $x as item() := 1; $x", Read::Accepted),
     (b"declare variable $x external; $x", Read::LeftOut),
     (b"declare function f() {1}; 1", Read::Accepted),
-    (b"declare function f($x, $y as item()) as item() {1}; 1", Read::Accepted),
+    (
+        b"declare function f($x, $y as item()) as item() {1}; 1",
+        Read::Accepted,
+    ),
     (b"declare function f() external; 1", Read::LeftOut),
     (b"declare boundary-space strip 1", Read::Refused),
     (b"declare variable $x = 1; $x", Read::Refused),
@@ -456,7 +474,10 @@ const DECLARATIONS_LEFT_OUT: Cases = &[
     (b"module", Read::LeftOut),
     (b"declare variable $x := 1; module", Read::Accepted),
     (b"declare variable $x := 1; import", Read::LeftOut),
-    (b"declare variable $x := 1; declare boundary-space strip; 1", Read::Refused),
+    (
+        b"declare variable $x := 1; declare boundary-space strip; 1",
+        Read::Refused,
+    ),
     (b"declare namespace a = \"b\"; 1", Read::LeftOut),
     (b"import module \"a\"; 1", Read::LeftOut),
     (b"module namespace a = \"b\"; 1", Read::LeftOut),
@@ -469,9 +490,18 @@ const VERSIONS: Cases = &[
     (b"xquery version 1", Read::Refused),
     (b"xquery version \"1.0\"; 1", Read::Accepted),
     (b"xquery version \"2\"; 1", Read::Accepted),
-    (b"xquery version \"1.0\" encoding \"UTF-8\"; 1", Read::Accepted),
-    (b"xquery version \"1.0\" encoding \"us-ascii\"; 1", Read::Accepted),
-    (b"xquery version \"1.0\" encoding \"latin1\"; 1", Read::LeftOut),
+    (
+        b"xquery version \"1.0\" encoding \"UTF-8\"; 1",
+        Read::Accepted,
+    ),
+    (
+        b"xquery version \"1.0\" encoding \"us-ascii\"; 1",
+        Read::Accepted,
+    ),
+    (
+        b"xquery version \"1.0\" encoding \"latin1\"; 1",
+        Read::LeftOut,
+    ),
     (b"xquery version \"1.0\" 1", Read::Refused),
 ];
 

@@ -1,3 +1,4 @@
+pub mod AllThere
 pub mod Answered
 pub mod Answers
 pub mod Bools
@@ -9,6 +10,8 @@ pub mod Few
 pub mod Firsts
 pub mod FormFails
 pub mod Later
+pub mod Literals
+pub mod Nodes
 pub mod Numerals
 pub mod OneMeaning
 pub mod Places

@@ -1,6 +1,6 @@
 -- The part of the language that is evaluated (own rule): integers, variables, parentheses, sequences, sums, loops of one
 -- `for` clause without types, positions, conditions and order, and `doc` of a string; no version and no declarations.
-use Rattle.std.specs.Prelude.{ℕ, ℤ, pos, ◌^◌, Bool, true, false, ◌&&◌, ◌||◌, List, [], ◌∷◌, map, Option, Some, None, nat_lt, codes, if◌then◌else◌}
+use Rattle.std.specs.Prelude.{ℕ, ℤ, pos, ◌^◌, Bool, true, false, not, ◌&&◌, ◌||◌, List, [], ◌∷◌, map, Option, Some, None, nat_lt, codes, if◌then◌else◌}
 use Rattle.std.specs.Str.{is_utf8}
 use Rattle.xq_ast.specs.declared.leaf.Operator.{Operator}
 use Rattle.xq_ast.specs.declared.leaf.Operator.TheVariants as op
@@ -130,24 +130,37 @@ is_absent None = true
 is_absent (Some a) = false
 
 -- a binding without type and position
+abbrev pub bind_with : {E : Type 0} → ForBind Named ReadType E → Option Single → Option Bind
+bind_with b source = if is_absent b.ty && is_absent b.at then bound_by b.var.name.text b.var.offset source else None
+
 abbrev pub bind_of : {E : Type 0} → (E → Option Single) → ForBind Named ReadType E → Option Bind
-bind_of f b = if is_absent b.ty && is_absent b.at then bound_by b.var.name.text b.var.offset (f b.source) else None
+bind_of f b = bind_with b (f b.source)
 
 abbrev pub loop_of : ℕ → Option (List Bind) → Option Single → Part
 loop_of i None e = p.Other
 loop_of i (Some bs) None = p.Other
 loop_of i (Some bs) (Some e) = p.Whole (single_.For i bs e)
 
--- one `for` clause
-abbrev pub clause_of : {E : Type 0} → (E → Option Single) → List (Clause Named ReadType E) → Option (List Bind)
-clause_of f [] = None
-clause_of f (clause_.Let bs ∷ cs) = None
-clause_of f (clause_.For bs ∷ []) = all_of (map (bind_of f) bs)
-clause_of f (clause_.For bs ∷ c ∷ cs) = None
+-- the bindings of one `for` clause
+abbrev pub only_for : {E : Type 0} → List (Clause Named ReadType E) → Option (List (ForBind Named ReadType E))
+only_for [] = None
+only_for (clause_.Let bs ∷ cs) = None
+only_for (clause_.For bs ∷ []) = Some bs
+only_for (clause_.For bs ∷ c ∷ cs) = None
 
--- without condition and order
+abbrev pub binds_of : {E : Type 0} → (E → Option Single) → Option (List (ForBind Named ReadType E)) → Option (List Bind)
+binds_of f None = None
+binds_of f (Some bs) = all_of (map (bind_of f) bs)
+
+abbrev pub clause_of : {E : Type 0} → (E → Option Single) → List (Clause Named ReadType E) → Option (List Bind)
+clause_of f cs = binds_of f (only_for cs)
+
+-- with a condition or keys
+abbrev pub is_filtered : {E : Type 0} → Option E → List (Key E) → Bool
+is_filtered w ks = not (is_absent w && is_empty ks)
+
 abbrev pub flwor_part : ℕ → List (Clause Named ReadType Part) → Option Part → List (Key Part) → Part → Part
-flwor_part i cs w ks e = if is_absent w && is_empty ks then loop_of i (clause_of single_of cs) (single_of e) else p.Other
+flwor_part i cs w ks e = if is_filtered w ks then p.Other else loop_of i (clause_of single_of cs) (single_of e)
 
 abbrev pub doc_part : ℕ → Part → Part
 doc_part i (p.Operand j x) = p.Other

@@ -1,5 +1,6 @@
 //! What a node of a query's tree is in the part of the language that is evaluated.
-ghost use Rattle.std.specs.Prelude.{◌≡◌, ◌∷◌, [], IfOk, map};
+ghost use Rattle.std.specs.Prelude.{◌≡◌, ◌∷◌, [], IfOk, MatchOption, map, None};
+ghost use Rattle.xq_ast.specs.declared.node.Clause.TheVariants as clause_;
 ghost use Rattle.query_engine.specs.Parts as spec;
 ghost use Rattle.query_engine.specs.Parts.{all_of, with_first, or_other};
 ghost use Rattle.query_engine.specs.declared.parts.Part.TheVariants as p;
@@ -10,7 +11,7 @@ use crate::tree::{Bind, Call, Name, Primary, Quoted, Single, Sum};
 use sqlite_items::{Boxed, Items};
 use std::alloc::Global;
 use xq_ast::leaf::{Name as Named, Operator, ReadType};
-use xq_ast::node::{AsRead, Clause, ForBind, Node, Right};
+use xq_ast::node::{AsRead, Clause, ForBind, Key, Node, Right};
 use xq_ast::query::Query;
 use xq_base::Want;
 
@@ -74,6 +75,7 @@ fn one_item(alloc: Global, single: Single) -> Result<Items<Single>, Want>
 }
 
 /// A string whose bytes are UTF-8.
+#[tactic(auto, using(crate::proofs::Literals::literal_text, crate::proofs::Literals::other_text))]
 fn text_part(alloc: Global, offset: u64, text: &[u8]) -> Result<Part, Want>
     ensures { IfOk result (λ found. found ≡ spec.text_part offset text.now) }
 {
@@ -230,6 +232,19 @@ fn doc_part(offset: u64, argument: Part) -> Part
     }
 }
 
+/// A call of `doc` with one string, or what isn't evaluated.
+fn call_part(offset: u64, name: &[u8], mut arguments: Vec<Part>) -> Part
+    ensures { result ≡ spec.call_part offset name.now arguments.items }
+{
+    if arguments.len() > 1 || !is_doc(name) {
+        return Part::Other;
+    }
+    match arguments.pop() {
+        None => Part::Other,
+        Some(argument) => doc_part(offset, argument),
+    }
+}
+
 /// The expressions that nodes are, or none.
 #[cycle(part)]
 fn singles(alloc: Global, nodes: &[Node<AsRead>]) -> Result<Option<Items<Single>>, Want>
@@ -244,6 +259,18 @@ fn singles(alloc: Global, nodes: &[Node<AsRead>]) -> Result<Option<Items<Single>
         }
     }
     Ok(Some(found))
+}
+
+/// What nodes are.
+#[cycle(part)]
+fn parts(alloc: Global, nodes: &[Node<AsRead>]) -> Result<Vec<Part>, Want>
+    ensures { IfOk result (λ found. found.items ≡ map spec.part_of nodes.now) }
+{
+    let mut found = Vec::new(alloc);
+    for node in nodes {
+        found.push(part_of(alloc, node)?)?;
+    }
+    Ok(found)
 }
 
 /// The operands behind `+`, or none.
@@ -263,18 +290,16 @@ fn operands(alloc: Global, rights: &[Right<Node<AsRead>>]) -> Result<Option<Item
 }
 
 /// A binding without type and position, or none.
-#[cycle(part)]
-fn bind(
+fn bind_with(
     alloc: Global,
     bind: &ForBind<Named<Items<u8>>, ReadType, Node<AsRead>>,
+    source: Option<Single>,
 ) -> Result<Option<Bind>, Want>
-    ensures { IfOk result (λ found. found ≡ spec.bind_of (λ n. spec.single_of (spec.part_of n)) bind.now) }
+    ensures { IfOk result (λ found. found ≡ spec.bind_with bind.now source) }
 {
     if bind.ty.is_some() || bind.at.is_some() {
         return Ok(None);
     }
-    let part = part_of(alloc, bind.source.get())?;
-    let source = single_of(alloc, part);
     bound_by(alloc, bind.var.offset, bind.var.name.text.as_slice(), source)
 }
 
@@ -288,7 +313,8 @@ fn binds(
 {
     let mut found = Items::new(alloc);
     for one in all {
-        match bind(alloc, one)? {
+        let part = part_of(alloc, one.source.get())?;
+        match bind_with(alloc, one, single_of(alloc, part))? {
             None => return Ok(None),
             Some(bind) => found.push(bind)?,
         }
@@ -296,83 +322,23 @@ fn binds(
     Ok(Some(found))
 }
 
-/// The bindings of one `for` clause, or none.
-#[cycle(part)]
-fn clause(
-    alloc: Global,
-    clauses: &[Clause<Named<Items<u8>>, ReadType, Node<AsRead>>],
-) -> Result<Option<Items<Bind>>, Want>
-    ensures { IfOk result (λ found. found ≡ spec.clause_of (λ n. spec.single_of (spec.part_of n)) clauses.now) }
+/// The bindings of one `for` clause.
+fn only_for<'a>(
+    clauses: &'a [Clause<Named<Items<u8>>, ReadType, Node<AsRead>>],
+) -> Option<&'a [ForBind<Named<Items<u8>>, ReadType, Node<AsRead>>]>
+    ensures { MatchOption result (spec.only_for clauses.now ≡ None) (λ bs. clauses.now ≡ clause_.For bs.now ∷ []) }
 {
     match clauses {
-        [Clause::For(all)] => binds(alloc, all.as_slice()),
-        _ => Ok(None),
+        [Clause::For(all)] => Some(all.as_slice()),
+        _ => None,
     }
 }
 
-/// A loop, or what isn't evaluated.
-#[cycle(part)]
-fn flwor(
-    alloc: Global,
-    offset: u64,
-    clauses: &[Clause<Named<Items<u8>>, ReadType, Node<AsRead>>],
-    body: &Node<AsRead>,
-) -> Result<Part, Want>
-    ensures { IfOk result (λ found. found ≡ spec.loop_of offset (spec.clause_of (λ n. spec.single_of (spec.part_of n)) clauses.now) (spec.single_of (spec.part_of body.now))) }
+/// With a condition or keys.
+fn is_filtered(condition: &Option<Boxed<Node<AsRead>>>, keys: &[Key<Node<AsRead>>]) -> bool
+    ensures { result ≡ spec.is_filtered condition.now keys.now }
 {
-    let binds = clause(alloc, clauses)?;
-    let part = part_of(alloc, body)?;
-    let body = single_of(alloc, part);
-    loop_of(alloc, offset, binds, body)
-}
-
-/// Two expressions or more, or what isn't evaluated.
-#[cycle(part)]
-fn comma(alloc: Global, first: &Node<AsRead>, more: &[Node<AsRead>]) -> Result<Part, Want>
-    ensures { IfOk result (λ found. found ≡ or_other p.Several (with_first (spec.single_of (spec.part_of first.now)) (all_of (map (λ n. spec.single_of (spec.part_of n)) more.now)))) }
-{
-    let part = part_of(alloc, first)?;
-    let first = single_of(alloc, part);
-    let more = singles(alloc, more)?;
-    comma_of(alloc, first, more)
-}
-
-/// A sum, or what isn't evaluated.
-#[cycle(part)]
-fn chain(
-    alloc: Global,
-    offset: u64,
-    first: &Node<AsRead>,
-    rights: &[Right<Node<AsRead>>],
-) -> Result<Part, Want>
-    ensures { IfOk result (λ found. found ≡ spec.sum_of offset (spec.primary_of (spec.part_of first.now)) (all_of (map (spec.right_of (λ n. spec.primary_of (spec.part_of n))) rights.now))) }
-{
-    let part = part_of(alloc, first)?;
-    let first = primary_of(part);
-    let more = operands(alloc, rights)?;
-    Ok(sum_of(offset, first, more))
-}
-
-/// A call of `doc` with one string, or what isn't evaluated.
-#[cycle(part)]
-fn call(
-    alloc: Global,
-    offset: u64,
-    name: &[u8],
-    arguments: &[Node<AsRead>],
-) -> Result<Part, Want>
-    ensures { IfOk result (λ found. found ≡ spec.call_part offset name.now (map spec.part_of arguments.now)) }
-{
-    if !is_doc(name) {
-        return Ok(Part::Other);
-    }
-    match arguments {
-        [argument] => {
-            let part = part_of(alloc, argument)?;
-            Ok(doc_part(offset, part))
-        }
-        _ => Ok(Part::Other),
-    }
+    condition.is_some() || !keys.is_empty()
 }
 
 /// What a node is.
@@ -381,14 +347,29 @@ pub fn part_of(alloc: Global, node: &Node<AsRead>) -> Result<Part, Want>
     ensures { IfOk result (λ found. found ≡ spec.part_of node.now) }
 {
     match node {
-        Node::Comma(_, first, more) => comma(alloc, first.get(), more.as_slice()),
+        Node::Comma(_, first, more) => {
+            let more = singles(alloc, more.as_slice())?;
+            let part = part_of(alloc, first.get())?;
+            comma_of(alloc, single_of(alloc, part), more)
+        }
         Node::Flwor(offset, clauses, condition, keys, body) => {
-            if condition.is_some() || !keys.as_slice().is_empty() {
+            if is_filtered(condition, keys.as_slice()) {
                 return Ok(Part::Other);
             }
-            flwor(alloc, *offset, clauses.as_slice(), body.get())
+            match only_for(clauses.as_slice()) {
+                None => Ok(Part::Other),
+                Some(all) => {
+                    let binds = binds(alloc, all)?;
+                    let part = part_of(alloc, body.get())?;
+                    loop_of(alloc, *offset, binds, single_of(alloc, part))
+                }
+            }
         }
-        Node::Chain(offset, first, rights) => chain(alloc, *offset, first.get(), rights.as_slice()),
+        Node::Chain(offset, first, rights) => {
+            let more = operands(alloc, rights.as_slice())?;
+            let part = part_of(alloc, first.get())?;
+            Ok(sum_of(*offset, primary_of(part), more))
+        }
         Node::Integer(offset, digits) => Ok(integer_part(*offset, digits.as_slice())),
         Node::Text(offset, text) => text_part(alloc, *offset, text.as_slice()),
         Node::Var(offset, name) => var_part(alloc, *offset, name.text.as_slice()),
@@ -397,7 +378,10 @@ pub fn part_of(alloc: Global, node: &Node<AsRead>) -> Result<Part, Want>
             let part = part_of(alloc, inner.get())?;
             paren_part(alloc, *offset, part)
         }
-        Node::Call(offset, name, arguments) => call(alloc, *offset, name.text.as_slice(), arguments.as_slice()),
+        Node::Call(offset, name, arguments) => {
+            let parts = parts(alloc, arguments.as_slice())?;
+            Ok(call_part(*offset, name.text.as_slice(), parts))
+        }
         _ => Ok(Part::Other),
     }
 }

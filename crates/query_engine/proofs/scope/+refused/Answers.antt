@@ -8,13 +8,13 @@ pub in_singles-loop-part-preserved : goal.in_singles-loop-part-preserved
 in_singles-loop-part-preserved t c =
     c.loop-part.invariant
     ∙ part_turn in_single c.args.parts.now c.loop-part.part-index c.part-item.result c.args.names.now c.loop-part.first c.loop-part-test.true c.part-item.is
-    ∙ ap (λ m. lesser m (least (all_parts (map in_single (drop (c.loop-part.part-index + 1) c.args.parts.now)) c.args.names.now))) (sym (c.lesser-first.ensures ∙ ap (lesser c.loop-part.least) c.in_ok-in_single.ensures))
+    ∙ ap (λ m. lesser m (least (all_parts (map in_single (drop (c.loop-part.part-index + 1) c.args.parts.now)) c.args.names.now))) (sym (c.lesser-first.ensures ∙ ap (lesser c.loop-part.first) c.in_ok-in_single.ensures))
 
 pub in_primaries-loop-part-preserved : goal.in_primaries-loop-part-preserved
 in_primaries-loop-part-preserved t c =
     c.loop-part.invariant
     ∙ part_turn in_primary c.args.parts.now c.loop-part.part-index c.part-item.result c.args.names.now c.loop-part.first c.loop-part-test.true c.part-item.is
-    ∙ ap (λ m. lesser m (least (all_parts (map in_primary (drop (c.loop-part.part-index + 1) c.args.parts.now)) c.args.names.now))) (sym (c.lesser-first.ensures ∙ ap (lesser c.loop-part.least) c.in_ok-in_primary.ensures))
+    ∙ ap (λ m. lesser m (least (all_parts (map in_primary (drop (c.loop-part.part-index + 1) c.args.parts.now)) c.args.names.now))) (sym (c.lesser-first.ensures ∙ ap (lesser c.loop-part.first) c.in_ok-in_primary.ensures))
 
 pub in_sum-returns : goal.in_sum-returns
 in_sum-returns t c =
@@ -36,4 +36,4 @@ pub in_sources-loop-bind-preserved : goal.in_sources-loop-bind-preserved
 in_sources-loop-bind-preserved t c =
     c.loop-bind.invariant
     ∙ bind_turn c.args.binds.now c.loop-bind.bind-index c.bind-item.result c.loop-bind.inner _ c.loop-bind.first c.loop-bind-test.true c.bind-item.is c.in_ok-inner-2.ensures
-    ∙ ap (λ m. lesser m (least (sources_part (map in_bind (drop (c.loop-bind.bind-index + 1) c.args.binds.now)) c.in_ok-inner-2.inner))) (sym (c.lesser-first.ensures ∙ ap (lesser c.loop-bind.least) c.in_ok-in_single.ensures))
+    ∙ ap (λ m. lesser m (least (sources_part (map in_bind (drop (c.loop-bind.bind-index + 1) c.args.binds.now)) c.in_ok-inner-2.inner))) (sym (c.lesser-first.ensures ∙ ap (lesser c.loop-bind.first) c.in_ok-in_single.ensures))
