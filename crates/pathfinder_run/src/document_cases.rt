@@ -66,7 +66,7 @@ const WHOLE: &[u8] = b"doc(\"a.xml\")";
 const CUT: &[u8] = b"<a x=\"1\"><b>2</b>";
 
 /// Queries over a document `a.xml`: the document, what is written, the line, the exit status.
-const QUERIES: [(&[u8], &[u8], &[u8], &[u8], u8); 23] = [
+const QUERIES: [(&[u8], &[u8], &[u8], &[u8], u8); 31] = [
     (WHOLE, A, A, b"", 0),
     (b"\n doc\t( \r\"a.xml\" ) ", A, A, b"", 0),
     (b"doc(\"b.xml\")", A, b"", b"FODC0002 at 0", 2),
@@ -110,15 +110,25 @@ const QUERIES: [(&[u8], &[u8], &[u8], &[u8], u8); 23] = [
     // sums and documents aren't evaluated together yet
     (b"doc(\"a.xml\") + 1", A, b"", b"PFRC0004", 1),
     (b"1 + $x, doc(\"a.xml\")", A, b"", b"XPST0008 at 4", 1),
-    // no name, other quotes, another function, a longer name of it
-    (b"doc(\"\")", A, b"", b"XPST0003", 1),
-    (b"doc('a.xml')", A, b"", b"XPST0003", 1),
-    (b"dog(\"a.xml\")", A, b"", b"XPST0003", 1),
-    (b"docs(\"a.xml\")", A, b"", b"XPST0003", 1),
-    // an ampersand, a tab and a byte that isn't ASCII are no characters of a name
+    // other quotes, references, a prefix, parentheses
+    (b"doc('a.xml')", A, A, b"", 0),
+    (b"doc(\"&#97;.&#x78;ml\")", A, A, b"", 0),
+    (b"fn:doc(\"a.xml\")", A, A, b"", 0),
+    (b"(doc((\"a.xml\")))", A, A, b"", 0),
+    // no document has these names
+    (b"doc(\"\")", A, b"", b"FODC0002 at 0", 2),
+    (b"doc(\"a\tb\")", A, b"", b"FODC0002 at 0", 2),
+    (b"doc(\"\xc3\xa4\")", A, b"", b"FODC0002 at 0", 2),
+    (b"doc(\"a\"\"b\")", A, b"", b"FODC0002 at 0", 2),
+    // another argument, another function, a longer name of it
+    (b"doc(1)", A, b"", b"PFRC0004", 1),
+    (b"doc()", A, b"", b"PFRC0004", 1),
+    (b"doc(\"a.xml\", 1)", A, b"", b"PFRC0004", 1),
+    (b"dog(\"a.xml\")", A, b"", b"PFRC0004", 1),
+    (b"docs(\"a.xml\")", A, b"", b"PFRC0004", 1),
+    (b"doc(\"a.xml\")/a", A, b"", b"PFRC0004", 1),
+    // an ampersand begins a reference
     (b"doc(\"a&b\")", A, b"", b"XPST0003", 1),
-    (b"doc(\"a\tb\")", A, b"", b"XPST0003", 1),
-    (b"doc(\"\xc3\xa4\")", A, b"", b"XPST0003", 1),
     // a document that no query names is read
     (b"1", A, b"1", b"", 0),
     (b"1", CUT, b"", b"document a.xml is not well-formed", 3),

@@ -7,6 +7,8 @@ mod diagnosis;
 mod document_cases;
 mod inputs;
 #[cfg(test)]
+mod production_cases;
+#[cfg(test)]
 mod query_cases;
 mod status;
 mod top;

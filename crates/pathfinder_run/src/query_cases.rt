@@ -7,7 +7,7 @@ use std::test::Fail;
 use xq_base::HashKeys;
 
 /// Queries: what is written, the diagnosis without its line end, the exit status.
-const CASES: [(&[u8], &[u8], &[u8], u8); 38] = [
+const CASES: [(&[u8], &[u8], &[u8], u8); 75] = [
     (
         b"for $x in (1,2), $y in (10,20) return $x+$y",
         b"11 21 12 22",
@@ -21,22 +21,26 @@ const CASES: [(&[u8], &[u8], &[u8], u8); 38] = [
     (b"$x", b"", b"XPST0008 at 0", 1),
     (b"1+(2,3)", b"", b"XPTY0004 at 0", 2),
     (b"(1,2)+()", b"", b"XPTY0004 at 0", 2),
-    // white space before, between and after
+    // white space and comments before, between and after
     (b" \t\r\n1 \t\r\n,\n2 ", b"1 2", b"", 0),
+    (b"(: a (: b :) :)1(::)+(: c :)2 (: d :)", b"3", b"", 0),
+    (b"1 (: (: :)", b"", b"XPST0003", 1),
     // a keyword ends at a sign
     (b"for$x in 1 return $x", b"1", b"", 0),
     // digits end before a letter
     (b"for$x in 1return $x", b"", b"XPST0003", 1),
-    // a keyword has no letter after it
-    (b"fort", b"", b"XPST0003", 1),
     (b"1for", b"", b"XPST0003", 1),
-    // and no digit
+    // and a keyword before a digit
     (b"for $x in 1 return2", b"", b"XPST0003", 1),
     // a keyword is a name behind a dollar
     (b"for $for in 1 return $for", b"1", b"", 0),
     (b"for $ x in 1 return $\nx", b"1", b"", 0),
+    (b"for $a:b-c.d in 1 return $a:b-c.d", b"1", b"", 0),
+    (b"for $\xc3\xa9 in 1 return $\xc3\xa9", b"1", b"", 0),
+    (b"$X", b"", b"XPST0008 at 0", 1),
     // the longest name
     (b"for $xy in (1,2) return $x", b"", b"XPST0008 at 24", 1),
+    (b"for $x-y in 1 return $x -1", b"", b"PFRC0004", 1),
     // the inner hides the outer
     (
         b"for $x in (1,2) return for $x in (3,4) return $x",
@@ -53,22 +57,61 @@ const CASES: [(&[u8], &[u8], &[u8], u8); 38] = [
     (b"for $x in () return (1,2)+3", b"", b"", 0),
     // the least site
     (b"((1,2)+1, 3+(4,5))", b"", b"XPTY0004 at 1", 2),
+    // integers of any length, within 64 bits
     (b"999999999999999999", b"999999999999999999", b"", 0),
-    // nineteen digits
-    (b"1000000000000000000", b"", b"XPST0003", 1),
-    (b"007+08", b"15", b"", 0),
+    (b"9223372036854775807", b"9223372036854775807", b"", 0),
+    (b"0000000000000000000000000000000007+08", b"15", b"", 0),
+    (b"9223372036854775808", b"", b"FOAR0002 at 0", 1),
+    (b"18446744073709551616", b"", b"FOAR0002 at 0", 1),
+    (
+        b"1, 99999999999999999999999999999999999999999",
+        b"",
+        b"FOAR0002 at 3",
+        1,
+    ),
+    (b"9223372036854775807 + 1", b"", b"FOAR0002 at 0", 2),
+    // of a reference and an integer the first by place
+    (b"$x + 9223372036854775808", b"", b"XPST0008 at 0", 1),
+    (b"9223372036854775808 + $x", b"", b"FOAR0002 at 0", 1),
+    // places count each byte: a comment, both line ends, a byte order mark, wide characters
+    (b"(: c :) $x", b"", b"XPST0008 at 8", 1),
+    (b"1,\r\n$x", b"", b"XPST0008 at 4", 1),
+    (b"\xef\xbb\xbf$x", b"", b"XPST0008 at 3", 1),
+    (b"\xef\xbb\xbf1+(2,3)", b"", b"XPTY0004 at 3", 2),
+    (b"(: \xc3\xa9 :)$x", b"", b"XPST0008 at 8", 1),
+    (b"for $\xc3\xa9 in 1 return $x", b"", b"XPST0008 at 20", 1),
+    // read, and not evaluated yet: before names are looked up
+    (b"$x - 1", b"", b"PFRC0004", 1),
+    (b"a", b"", b"PFRC0004", 1),
+    (b"\xc3\xa4", b"", b"PFRC0004", 1),
+    (b"\"a\"", b"", b"PFRC0004", 1),
+    (b"f(1)", b"", b"PFRC0004", 1),
+    (b"+1", b"", b"PFRC0004", 1),
+    (b"1 * 2", b"", b"PFRC0004", 1),
+    (b"1 + 2 - 3", b"", b"PFRC0004", 1),
+    (b"let $x := 1 return $x", b"", b"PFRC0004", 1),
+    (b"for $x in 1 for $y in 2 return $x", b"", b"PFRC0004", 1),
+    (b"for $x at $i in 1 return $x", b"", b"PFRC0004", 1),
+    (b"for $x as xs:integer in 1 return $x", b"", b"PFRC0004", 1),
+    (b"for $x in 1 where $x return $x", b"", b"PFRC0004", 1),
+    (b"for $x in 1 order by $x return $x", b"", b"PFRC0004", 1),
+    (b"(1, <a/>)", b"", b"PFRC0004", 1),
+    (b"xquery version \"1.0\"; 1", b"", b"PFRC0004", 1),
+    (b"declare variable $x := 1; $x", b"", b"PFRC0004", 1),
+    // left out, whatever comes behind it
+    (b"1 div 2", b"", b"PFRC0004", 1),
+    (b"1 div )", b"", b"PFRC0004", 1),
+    (b") 1 div 2", b"", b"XPST0003", 1),
+    (b"$x + 1.5", b"", b"PFRC0004", 1),
     (b"1,", b"", b"XPST0003", 1),
     (b"1+", b"", b"XPST0003", 1),
     (b"1 2", b"", b"XPST0003", 1),
     (b"(1", b"", b"XPST0003", 1),
     (b"1)", b"", b"XPST0003", 1),
     (b"for $x return 1", b"", b"XPST0003", 1),
-    // only small letters
-    (b"$X", b"", b"XPST0003", 1),
-    // bytes that are not ASCII
-    (b"\xc3\xa4", b"", b"XPST0003", 1),
-    // no comments
-    (b"1(: c :)", b"", b"XPST0003", 1),
+    // bytes that are no text
+    (b"1 \xff", b"", b"XPST0003", 1),
+    (b"1.5 \x01", b"", b"XPST0003", 1),
     (b"(1,(2,(),3),4)", b"1 2 3 4", b"", 0),
     (b"1+2+3", b"6", b"", 0),
     (b"for $x in (1,2) return ($x,$x+$x)", b"1 2 2 4", b"", 0),
@@ -103,6 +146,22 @@ pub fn is_line(taken: &[u8], text: &[u8]) -> bool {
         Some((end, front)) => *end == b'\n' && front == text,
         None => false,
     }
+}
+
+/// The status of a query without documents.
+pub fn status_alone(alloc: Global, query: &[u8]) -> Result<Status, AllocError> {
+    let mut shelf = MemShelf::new(alloc, one_file(alloc, query)?, 64, Vec::new(alloc));
+    let mut out = MemSink::new(alloc, 64, Vec::new(alloc));
+    let mut diag = MemSink::new(alloc, 64, Vec::new(alloc));
+    let words = words_of(alloc, &["run", NAME])?;
+    Ok(pathfinder(
+        alloc,
+        HashKeys::new(1, 2),
+        words.as_slice(),
+        &mut shelf,
+        &mut out,
+        &mut diag,
+    ))
 }
 
 fn is_answered(
@@ -167,7 +226,7 @@ fn padded(alloc: Global, count: usize) -> Result<Vec<u8>, AllocError> {
 fn limits_are_kept(rt: HostRuntime) -> Result<(), Fail> {
     let alloc = rt.alloc();
     assert!(rt; is_answered(alloc, nested(alloc, 255)?.as_slice(), b"1", b"", 0)?);
-    assert!(rt; is_answered(alloc, nested(alloc, 256)?.as_slice(), b"", b"XPST0003", 1)?);
+    assert!(rt; is_answered(alloc, nested(alloc, 256)?.as_slice(), b"", b"PFRC0003", 1)?);
     assert!(rt; is_answered(alloc, padded(alloc, 4095)?.as_slice(), b"1", b"", 0)?);
     assert!(rt;
         is_answered(

@@ -1,5 +1,5 @@
 -- A text has at most one meaning.
-use Rattle.std.proofs.Common.{◌≡◌, ℕ, List, [], true, Option, Some, None, refl, sym, ap, ◌∙◌, subst}
+use Rattle.std.proofs.Common.{◌≡◌, ℕ, List, [], true, false, Option, Some, None, inl, inr, refl, sym, ap, ◌∙◌, subst, arith}
 use Rattle.xq_base.specs.declared.code.Code.{Code}
 use Rattle.xq_base.specs.declared.code.Code.TheVariants as c
 use Rattle.doc_table.specs.NodeRules.{Docs}
@@ -7,16 +7,47 @@ use Rattle.core_meaning.specs.PlainCore.{PlainCore}
 use Rattle.core_meaning.specs.ExprOf.{expr_of}
 use Rattle.core_meaning.specs.Expr.{Expr}
 use Rattle.core_meaning.specs.Failures.{Failure, first}
+use Rattle.xq_ast.specs.Phrases.{Why, deep, left_out}
+use Rattle.xq_ast.specs.Query.{Reading, Reads, IsLeastCut, tree, cut, no_query}
+use Rattle.xq_parser.proofs.Query.{one_tree}
 use Rattle.xq_serial.specs.Ser.{ser, attribute_place}
-use Rattle.query_engine.specs.declared.tree.Single.{Single}
-use Rattle.query_engine.specs.Scope.{unbound, least_place}
-use Rattle.query_engine.specs.Normal.{norm}
-use Rattle.query_engine.specs.Evaluated.{is_evaluated}
-use Rattle.query_engine.specs.Answering.{Accepts, IsRefused, no_query, no_binding, no_form, IsAccepted, IsAnswer, IsFailing, evaluation, attribute, Meaning, Refuses, Fails, Writes, Means}
-use Rattle.query_engine.proofs.Query.{one_tree}
+use Rattle.query_engine.specs.Answering.{Static, refused, accepted, static_of, IsStatic, Accepts, IsRefused, IsAccepted, IsAnswer, IsFailing, evaluation, attribute, Meaning, Refuses, Fails, Writes, Means}
+
+one_why : (text : List ℕ) (v w : Why) (place : ℕ) → IsLeastCut text v place → IsLeastCut text w place → v ≡ w
+one_why text deep deep place a b = refl
+one_why text deep left_out place a b = sym (b.deep_first a.cut)
+one_why text left_out deep place a b = a.deep_first b.cut
+one_why text left_out left_out place a b = refl
+
+one_cut : (text : List ℕ) (v w : Why) (m n : ℕ) → IsLeastCut text v m → IsLeastCut text w n → cut v m ≡ cut w n
+one_cut text v w m n a b =
+    let same : m ≡ n = omega (arith, a.least w n b.cut, b.least v m a.cut) in
+    ap (λ x. cut x m) (one_why text v w m a (subst (IsLeastCut text w) (sym same) b)) ∙ ap (cut w) same
+
+both_ways : {b : _} → b ≡ true → b ≡ false → ⊥
+both_ways t f = let x = sym t ∙ f in cc
+
+-- a text is read in one way
+pub one_reading : (text : List ℕ) (a b : Reading) → Reads text a → Reads text b → a ≡ b
+one_reading text (tree q) (tree r) a b = ap tree (one_tree text q r a.1.0 b.1.0)
+one_reading text (tree q) (cut v m) a b = absurd (a.1.1 v m b.1.cut)
+one_reading text (tree q) no_query a (inl f) = absurd (both_ways a.0 f)
+one_reading text (tree q) no_query a (inr n) = absurd (n.no_tree q a.1.0)
+one_reading text (cut v m) (tree r) a b = absurd (b.1.1 v m a.1.cut)
+one_reading text (cut v m) (cut w n) a b = one_cut text v w m n a.1 b.1
+one_reading text (cut v m) no_query a (inl f) = absurd (both_ways a.0 f)
+one_reading text (cut v m) no_query a (inr n) = absurd (n.no_cut v m a.1.cut)
+one_reading text no_query (tree r) (inl f) b = absurd (both_ways b.0 f)
+one_reading text no_query (tree r) (inr n) b = absurd (n.no_tree r b.1.0)
+one_reading text no_query (cut w n) (inl f) b = absurd (both_ways b.0 f)
+one_reading text no_query (cut w n) (inr x) b = absurd (x.no_cut w n b.1.cut)
+one_reading text no_query no_query a b = refl
+
+one_static : (text : List ℕ) (s t : Static) → IsStatic text s → IsStatic text t → s ≡ t
+one_static text s t a b = sym a.is ∙ ap static_of (one_reading text a.reading b.reading a.read b.read) ∙ b.is
 
 one_core : (text : List ℕ) (e f : PlainCore) → IsAccepted text e → IsAccepted text f → e ≡ f
-one_core text e f a b = a.core_is ∙ ap norm (one_tree text a.tree b.tree a.query b.query) ∙ sym b.core_is
+one_core text e f a b = let x = one_static text (accepted e) (accepted f) a b in cc
 
 some_same : {A : Type 0} (x y : A) → Some x ≡ Some y → x ≡ y
 some_same x y e = cc
@@ -25,36 +56,13 @@ none_some : {A : Type 0} (x : A) → ◌≡◌ {A = Option A} None (Some x) → 
 none_some x e = cc
 
 refused_or_accepted : (text : List ℕ) (code : Code) (place : Option ℕ) (e : PlainCore) → IsRefused text code place → IsAccepted text e → ⊥
-refused_or_accepted text code place e (no_query none) a = none a.tree a.query
-refused_or_accepted text code place e (no_binding tree p q least) a =
-    let same = one_tree text tree a.tree q a.query in
-    let l : least_place (unbound tree) ≡ None = ap (λ t. least_place (unbound t)) same ∙ ap least_place a.bound in
-    cc
-refused_or_accepted text code place e (no_form tree q bound f) a =
-    let t : is_evaluated (norm tree) ≡ true = ap (λ x. is_evaluated (norm x)) (one_tree text tree a.tree q a.query) ∙ ap is_evaluated (sym a.core_is) ∙ a.evaluated in
-    cc
+refused_or_accepted text code place e r a = let x = one_static text (refused code place) (accepted e) r a in cc
 
 pub refused_or_accepts : (text : List ℕ) (code : Code) (place : Option ℕ) → IsRefused text code place → Accepts text → ⊥
 refused_or_accepts text code place r a = refused_or_accepted text code place a.0 r a.1
 
-bound_or_not : (text : List ℕ) (tree other : List Single) (place : ℕ) → unbound tree ≡ [] → least_place (unbound other) ≡ Some place → tree ≡ other → ⊥
-bound_or_not text tree other place b l same =
-    let none : least_place (unbound other) ≡ None = ap (λ t. least_place (unbound t)) (sym same) ∙ ap least_place b in
-    none_some place (sym none ∙ l)
-
 one_refusal : (text : List ℕ) (b d : Code) (p q : Option ℕ) → IsRefused text b p → IsRefused text d q → Refuses b p ≡ Refuses d q
-one_refusal text b d p q (no_query none) (no_query other) = refl
-one_refusal text b d p q (no_query none) (no_binding tree o query least) = absurd (none tree query)
-one_refusal text b d p q (no_query none) (no_form tree query bound f) = absurd (none tree query)
-one_refusal text b d p q (no_binding tree o query least) (no_query none) = absurd (none tree query)
-one_refusal text b d p q (no_binding tree o query least) (no_binding other i query' least') =
-    let same = one_tree text tree other query query' in
-    let l : Some o ≡ Some i = sym least ∙ ap (λ t. least_place (unbound t)) same ∙ least' in
-    ap (Refuses c.XPST0008) l
-one_refusal text b d p q (no_binding tree o query least) (no_form other query' bound f) = absurd (bound_or_not text other tree o bound least (one_tree text other tree query' query))
-one_refusal text b d p q (no_form tree query bound f) (no_query none) = absurd (none tree query)
-one_refusal text b d p q (no_form tree query bound f) (no_binding other i query' least) = absurd (bound_or_not text tree other i bound least (one_tree text tree other query query'))
-one_refusal text b d p q (no_form tree query bound f) (no_form other query' bound' g) = refl
+one_refusal text b d p q r s = let x = one_static text (refused b p) (refused d q) r s in cc
 
 one_failure : (docs : Docs) (e : Expr) (c d : Code) (p q : Option ℕ) → IsFailing docs e c p → IsFailing docs e d q → Fails c p ≡ Fails d q
 one_failure docs e b d p q (evaluation f first_f) (evaluation g first_g) = ap (λ (x : Failure). Fails x.code (Some x.site.offset)) (some_same f g (sym first_f ∙ first_g))

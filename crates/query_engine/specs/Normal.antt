@@ -1,6 +1,6 @@
 -- The Core of a query (Formal Semantics, sections 4.2 to 4.8). A variable is named by the place of its binding, so that all
 -- differ; the variable of the items' places, which no query here refers to, by the place after it.
-use Rattle.std.specs.Prelude.{ℕ, ◌+◌, List, [], ◌∷◌, map, Option, Some, None}
+use Rattle.std.specs.Prelude.{ℕ, ℤ, ◌+◌, List, [], ◌∷◌, map, Option, Some, None}
 use Rattle.xq_base.specs.declared.fun.Fun.TheVariants as f
 use Rattle.xq_base.specs.Atoms.{IntAtom, TextAtom}
 use Rattle.core_meaning.specs.PlainCore.{PlainCore, Lit, Empty, Var, Seq, For, Call, no_cores, one_core}
@@ -28,6 +28,11 @@ abbrev pub reference : ℕ → Option ℕ → PlainCore
 reference place (Some binding) = Var place binding
 reference place None = Empty place
 
+-- an integer; one that doesn't fit is refused before
+abbrev pub integer : ℕ → Option ℤ → PlainCore
+integer place (Some z) = Lit place (IntAtom z)
+integer place None = Empty place
+
 abbrev pub chain : ℕ → PlainCore → List PlainCore → PlainCore
 chain place e [] = e
 chain place e (f ∷ fs) = chain place (Seq place e f) fs
@@ -50,7 +55,7 @@ abbrev pub document : Called → PlainCore
 document call = Call call.offset f.Doc (one_core (Lit call.quote (TextAtom call.name)) no_cores)
 
 abbrev pub primary_norm : Primary-F Norm Norm NormBind Norm → Norm
-primary_norm (o.Integer n z) s = Lit n (IntAtom z)
+primary_norm (o.Integer n z) s = integer n z
 primary_norm (o.Var x) s = reference x.offset (visible s x.text)
 primary_norm (o.Paren n es) s = sequence n (at_scope es s)
 primary_norm (o.Doc call) s = document call

@@ -1,5 +1,7 @@
--- Which references have a binding (XQuery 1.0, sections 3.1.2 and 3.8.1).
-use Rattle.std.specs.Prelude.{ℕ, List, [], ◌∷◌, ◌++◌, map, min, Option, Some, None, if◌then◌else◌}
+-- References without a binding (XQuery 1.0, sections 3.1.2 and 3.8.1), and integers that don't fit 64 bits (section 3.1.1).
+use Rattle.std.specs.Prelude.{ℕ, ℤ, List, [], ◌∷◌, ◌++◌, map, nat_lt, Option, Some, None, if◌then◌else◌}
+use Rattle.xq_base.specs.declared.code.Code.TheVariants as c
+use Rattle.query_engine.specs.declared.scope.Refusal.{Refusal}
 use Rattle.query_engine.specs.declared.tree.Name.{Name}
 use Rattle.query_engine.specs.declared.tree.Primary.{Primary}
 use Rattle.query_engine.specs.declared.tree.Single.{Single}
@@ -8,7 +10,7 @@ use Rattle.query_engine.specs.declared.tree.Sum.{Sum}
 use Rattle.query_engine.specs.declared.tree.Primary.TheOpen.{Primary-F, Single-F, Bind-F, Sum-F}
 use Rattle.query_engine.specs.declared.tree.Primary.TheOpen as o
 use Rattle.query_engine.specs.declared.tree.Primary.TheFolds.{fold-Primary, fold-Single, fold-Bind, fold-Sum}
-use Rattle.query_engine.specs.Bytes.{same}
+use Rattle.xq_ast.specs.Bytes.{same}
 
 -- the variables that are visible, the innermost first
 abbrev pub Scope : Type 0
@@ -19,24 +21,28 @@ abbrev pub visible : Scope → List ℕ → Option ℕ
 visible [] x = None
 visible (n ∷ ns) x = if same n.text x then Some n.offset else visible ns x
 
--- in a scope, the places of the references without a binding
-abbrev pub Unbound : Type 0
-Unbound = Scope → List ℕ
+-- in a scope, what is refused
+abbrev pub Refused : Type 0
+Refused = Scope → List Refusal
 
 pub record BindPart : Type 0 where
   pub var : Name
-  pub source : Unbound
+  pub source : Refused
 
-abbrev pub unless_bound : Option ℕ → ℕ → List ℕ
-unless_bound None place = place ∷ []
+abbrev pub unless_bound : Option ℕ → ℕ → List Refusal
+unless_bound None place = record { code = c.XPST0008; place = place } ∷ []
 unless_bound (Some binding) place = []
 
-abbrev pub all_parts : List Unbound → Unbound
+abbrev pub unless_fitting : Option ℤ → ℕ → List Refusal
+unless_fitting None place = record { code = c.FOAR0002; place = place } ∷ []
+unless_fitting (Some z) place = []
+
+abbrev pub all_parts : List Refused → Refused
 all_parts [] s = []
 all_parts (f ∷ fs) s = f s ++ all_parts fs s
 
-abbrev pub primary_part : Primary-F Unbound Unbound BindPart Unbound → Unbound
-primary_part (o.Integer n z) s = []
+abbrev pub primary_part : Primary-F Refused Refused BindPart Refused → Refused
+primary_part (o.Integer n z) s = unless_fitting z n
 primary_part (o.Var x) s = unless_bound (visible s x.text) x.offset
 primary_part (o.Paren n es) s = all_parts es s
 primary_part (o.Doc call) s = []
@@ -51,43 +57,47 @@ vars_of [] = []
 vars_of (b ∷ bs) = b.var ∷ vars_of bs
 
 -- a variable is visible in the sources of the later bindings
-abbrev pub sources_part : List BindPart → Unbound
+abbrev pub sources_part : List BindPart → Refused
 sources_part [] s = []
 sources_part (b ∷ bs) s = b.source s ++ sources_part bs (b.var ∷ s)
 
-abbrev pub single_part : Single-F Unbound Unbound BindPart Unbound → Unbound
+abbrev pub single_part : Single-F Refused Refused BindPart Refused → Refused
 -- all variables are visible in the body
 single_part (o.For n bs body) s = sources_part bs s ++ body (inner_scope (vars_of bs) s)
 single_part (o.Sum f) s = f s
 
-abbrev pub bind_part : Bind-F Unbound Unbound BindPart Unbound → BindPart
+abbrev pub bind_part : Bind-F Refused Refused BindPart Refused → BindPart
 bind_part b = record { var = b.var; source = b.source }
 
-abbrev pub sum_part : Sum-F Unbound Unbound BindPart Unbound → Unbound
+abbrev pub sum_part : Sum-F Refused Refused BindPart Refused → Refused
 sum_part f s = f.first s ++ all_parts f.more s
 
-abbrev pub in_single : Single → Unbound
-in_single = fold-Single Unbound Unbound BindPart Unbound primary_part single_part bind_part sum_part
+abbrev pub in_single : Single → Refused
+in_single = fold-Single Refused Refused BindPart Refused primary_part single_part bind_part sum_part
 
-abbrev pub in_primary : Primary → Unbound
-in_primary = fold-Primary Unbound Unbound BindPart Unbound primary_part single_part bind_part sum_part
+abbrev pub in_primary : Primary → Refused
+in_primary = fold-Primary Refused Refused BindPart Refused primary_part single_part bind_part sum_part
 
 abbrev pub in_bind : Bind → BindPart
-in_bind = fold-Bind Unbound Unbound BindPart Unbound primary_part single_part bind_part sum_part
+in_bind = fold-Bind Refused Refused BindPart Refused primary_part single_part bind_part sum_part
 
-abbrev pub in_sum : Sum → Unbound
-in_sum = fold-Sum Unbound Unbound BindPart Unbound primary_part single_part bind_part sum_part
+abbrev pub in_sum : Sum → Refused
+in_sum = fold-Sum Refused Refused BindPart Refused primary_part single_part bind_part sum_part
 
--- the places of a query's references without a binding
-abbrev pub unbound : List Single → List ℕ
-unbound es = all_parts (map in_single es) []
+-- what is refused of a query
+abbrev pub refusals : List Single → List Refusal
+refusals es = all_parts (map in_single es) []
 
-abbrev pub lesser : Option ℕ → Option ℕ → Option ℕ
+-- the one with the lesser place
+abbrev pub sooner : Refusal → Refusal → Refusal
+sooner r q = if nat_lt q.place r.place then q else r
+
+abbrev pub lesser : Option Refusal → Option Refusal → Option Refusal
 lesser None b = b
-lesser (Some m) None = Some m
-lesser (Some m) (Some n) = Some (min m n)
+lesser (Some r) None = Some r
+lesser (Some r) (Some q) = Some (sooner r q)
 
--- the least place
-abbrev pub least_place : List ℕ → Option ℕ
-least_place [] = None
-least_place (n ∷ ns) = lesser (Some n) (least_place ns)
+-- the one with the least place
+abbrev pub least : List Refusal → Option Refusal
+least [] = None
+least (r ∷ rs) = lesser (Some r) (least rs)

@@ -2,10 +2,12 @@
 ghost use Rattle.std.specs.Prelude.{◌≡◌, ℕ, List, [], length, true, Option};
 ghost use Rattle.core_meaning.specs.Erasure.{core_of};
 ghost use Rattle.core_meaning.specs.ExprOf.{expr_of};
-ghost use Rattle.query_engine.specs.Query.{IsQuery, Faults};
+ghost use Rattle.xq_ast.specs.Query.{Reads, Reading, tree};
+ghost use Rattle.xq_parser.specs.Query.{Faults};
 ghost use Rattle.query_engine.specs.Evaluated.{CanEvaluate};
-ghost use Rattle.query_engine.specs.Scope.{unbound};
-ghost use Rattle.query_engine.specs.Answering.{Accepts, IsRefused, CompileFails, Compiles, Answers, Meaning, Means};
+ghost use Rattle.query_engine.specs.Scope.{refusals, least};
+ghost use Rattle.query_engine.specs.Normal.{norm};
+ghost use Rattle.query_engine.specs.Answering.{Accepts, IsRefused, CompileFails, Compiles, GivesStatic, of_core, of_scope, static_of, Answers, Meaning, Means};
 ghost use Rattle.doc_table.specs.Documents.{documents_in};
 ghost use Rattle.doc_table.specs.OtherTexts.{Grows};
 ghost use Rattle.xq_base.specs.declared.code.Code.{Code};
@@ -14,17 +16,19 @@ ghost use Rattle.doc_table.specs.Given.{trees_given};
 ghost use Rattle.doc_table.specs.Stores.{AreGiven};
 
 use crate::evaluate::{EvalFault, Evaluator};
-use crate::fault::ParseFault;
 use crate::forms::{has_forms, is_evaluated};
-use crate::grammar::parse;
 use crate::normal::normalise;
-use crate::scope::first_unbound;
+use crate::parts::evaluated_of;
+use crate::scope::first_refusal;
 use crate::tree::Single;
 use core_meaning::Core;
 use doc_table::Store;
 use std::alloc::Global;
 use thiserror::Error;
+use xq_ast::node::AsRead;
+use xq_ast::query::Query;
 use xq_base::{Code, Pool};
+use xq_parser::{ParseFault, parse};
 use xq_serial::{SerialFault, serialise};
 
 /// Why a query isn't compiled.
@@ -32,9 +36,11 @@ use xq_serial::{SerialFault, serialise};
 pub enum CompileFault {
     #[error("want of memory")]
     NoMemory,
-    /// The static rules refuse the query: XPST0003 without a place where the text is no query or
-    /// nests too deep, XPST0008 at the first reference without a binding, PFRC0004 without a place
-    /// where it is not evaluated: where both a sum and a call of `doc` occur.
+    /// The static rules refuse the query: XPST0003 where the text is no query; PFRC0003 where it nests
+    /// too deep; PFRC0004 where it has a construct that is left out, or a form that is not evaluated, or
+    /// both a sum and a call of `doc`, all three without a place; and with their place FOAR0002 at an
+    /// integer that doesn't fit 64 bits and XPST0008 at a reference without a binding, whichever stands
+    /// first.
     #[error("the query is refused")]
     Refused { code: Code, offset: Option<u64> },
 }
@@ -51,22 +57,22 @@ pub enum AnswerFault {
 }
 
 /// The refusal of a text that wasn't read.
-#[tactic(auto, using(crate::proofs::Answers::unread_syntax, crate::proofs::Answers::unread_deep))]
+#[tactic(auto, using(crate::proofs::Answers::unread_syntax, crate::proofs::Answers::unread_deep, crate::proofs::Answers::unread_left))]
 fn unread(fault: ParseFault) -> CompileFault
     ensures { (text : List ℕ) → Faults text fault → CompileFails text result }
 {
-    match fault {
-        ParseFault::NoMemory => CompileFault::NoMemory,
-        ParseFault::Syntax | ParseFault::TooDeep(_) => CompileFault::Refused {
-            code: Code::XPST0003,
-            offset: None,
-        },
-    }
+    let code = match fault {
+        ParseFault::NoMemory => return CompileFault::NoMemory,
+        ParseFault::Syntax => Code::XPST0003,
+        ParseFault::TooDeep(_) => Code::PFRC0003,
+        ParseFault::LeftOut(_) => Code::PFRC0004,
+    };
+    CompileFault::Refused { code, offset: None }
 }
 
-/// The Core of a tree all of whose references have a binding, where it is evaluated.
-fn compile_tree(alloc: Global, query: &[Single], pool: &mut Pool) -> Result<Core, CompileFault>
-    ensures core { (text : List ℕ) → IsQuery text query.now → unbound query.now ≡ [] → Compiles text pool.new result }
+/// The Core of expressions of which nothing is refused, where it is evaluated.
+fn compile_core(alloc: Global, query: &[Single], pool: &mut Pool) -> Result<Core, CompileFault>
+    ensures core { GivesStatic (of_core (norm query.now)) pool.new result }
     ensures keeps { Grows pool.old pool.new }
 {
     let Ok(core) = normalise(alloc, query, pool) else {
@@ -82,29 +88,54 @@ fn compile_tree(alloc: Global, query: &[Single], pool: &mut Pool) -> Result<Core
     }
 }
 
+/// The Core of expressions all of whose forms are evaluated.
+fn compile_parts(alloc: Global, query: &[Single], pool: &mut Pool) -> Result<Core, CompileFault>
+    ensures core { GivesStatic (of_scope query.now (least (refusals query.now))) pool.new result }
+    ensures keeps { Grows pool.old pool.new }
+{
+    match first_refusal(alloc, query) {
+        Err(_) => Err(CompileFault::NoMemory),
+        Ok(Some(refusal)) => Err(CompileFault::Refused {
+            code: refusal.code,
+            offset: Some(refusal.place),
+        }),
+        Ok(None) => compile_core(alloc, query, pool),
+    }
+}
+
+/// The Core of a query.
+fn compile_query(
+    alloc: Global,
+    query: &Query<AsRead>,
+    pool: &mut Pool,
+) -> Result<Core, CompileFault>
+    ensures core { GivesStatic (static_of (tree query.now)) pool.new result }
+    ensures keeps { Grows pool.old pool.new }
+{
+    match evaluated_of(alloc, query) {
+        Err(_) => Err(CompileFault::NoMemory),
+        Ok(None) => Err(CompileFault::Refused {
+            code: Code::PFRC0004,
+            offset: None,
+        }),
+        Ok(Some(parts)) => compile_parts(alloc, parts.as_slice(), pool),
+    }
+}
+
 /// Reads a query and checks it by the static rules (XQuery 1.0, sections 2.2.3.1 and 2.3.1). The
 /// pool gets the texts of its literals; earlier numbers keep their texts.
 ///
-/// The language is a part of XQuery: `for`, sums, integers, variables, sequences, and `doc` of a
-/// literal.
+/// `text` is the query in UTF-8, of the whole language. What is evaluated is a part of it: integers,
+/// variables, sequences, sums, loops of one `for` clause, and `doc` of a string.
 ///
 /// Errors: the refusal, or want of memory.
-#[tactic(auto, using(crate::proofs::Answers::refused_scope))]
 pub fn compile(alloc: Global, text: &[u8], pool: &mut Pool) -> Result<Core, CompileFault>
     ensures core { Compiles text.now pool.new result }
     ensures keeps { Grows pool.old pool.new }
 {
-    let query = match parse(alloc, text) {
-        Ok(query) => query,
-        Err(fault) => return Err(unread(fault)),
-    };
-    match first_unbound(alloc, query.as_slice()) {
-        Err(_) => Err(CompileFault::NoMemory),
-        Ok(Some(place)) => Err(CompileFault::Refused {
-            code: Code::XPST0008,
-            offset: Some(place),
-        }),
-        Ok(None) => compile_tree(alloc, query.as_slice(), pool),
+    match parse(alloc, text) {
+        Ok(query) => compile_query(alloc, &query, pool),
+        Err(fault) => Err(unread(fault)),
     }
 }
 

@@ -3,19 +3,16 @@
 //! `compile` refuses exactly by the grammar and the scope; `answer` gives the value or the first failure.
 #![tactic(auto)]
 
-mod bytes;
 mod engine;
 mod evaluate;
-mod fault;
 mod forms;
-mod grammar;
-mod look;
+mod integers;
 mod names;
 mod normal;
+mod parts;
 mod scope;
 mod size;
 mod sums;
-mod token;
 mod tree;
 
 pub use engine::{AnswerFault, CompileFault, answer, compile, one_meaning};

@@ -1,12 +1,19 @@
 //! The variables that are visible at a place.
 ghost use Rattle.std.specs.Prelude.{◌≡◌, ◌∷◌, [], IfOk, map};
+ghost use Rattle.xq_ast.specs.Bytes as bytes;
 ghost use Rattle.query_engine.specs.Scope.{visible, inner_scope, vars_of, in_bind};
 
-use crate::bytes::same;
 use crate::tree::{Bind, Name};
 use std::alloc::Global;
 use std::marker::Model;
 use xq_base::Want;
+
+/// Whether two names are the same.
+pub fn same(a: &[u8], b: &[u8]) -> bool
+    ensures { result ≡ bytes.same a.now b.now }
+{
+    a == b
+}
 
 /// The visible variables, the innermost first.
 #[derive(Drop)]

@@ -1,4 +1,4 @@
-//! The Core of a query all of whose references have a binding.
+//! The Core of a query of which nothing is refused.
 ghost use Rattle.std.specs.Prelude.{◌≡◌, ◌+◌, ℕ, List, IfOk, map};
 ghost use Rattle.doc_table.specs.OtherTexts.{Grows};
 ghost use Rattle.doc_table.specs.Tree.{text_in};
@@ -84,13 +84,14 @@ fn reference(offset: u64, binding: Option<u64>) -> Result<Core, Want>
     Ok(Core { kind, offset })
 }
 
-fn integer(offset: u64, value: i64) -> Core
-    ensures { (t : Texts) → IsRead t result (p.Lit offset (a.IntAtom value)) }
+fn integer(offset: u64, value: Option<i64>) -> Core
+    ensures { (t : Texts) → IsRead t result (spec.integer offset value) }
 {
-    Core {
-        kind: CoreKind::Lit(Atom::Int(value)),
-        offset,
-    }
+    let kind = match value {
+        Some(value) => CoreKind::Lit(Atom::Int(value)),
+        None => CoreKind::Empty,
+    };
+    Core { kind, offset }
 }
 
 fn literal(offset: u64, text: TextId) -> Core

@@ -76,7 +76,8 @@ pub struct Sum {
 #[cycle(tree)]
 #[derive(Drop)]
 pub enum Primary {
-    Integer(u64, i64),
+    /// None where it doesn't fit 64 bits.
+    Integer(u64, Option<i64>),
     Var(Name),
     Paren(u64, Items<Single>),
     Doc(Call),

@@ -1,8 +1,15 @@
 pub mod AllGood
 pub mod Bools
+pub mod EncodingLaws
 pub mod Exact
 pub mod Follow
 pub mod Good
 pub mod Levels
+pub mod LineLaws
+pub mod Parts
 pub mod Past
+pub mod Query
+pub mod Spelled
+pub mod Steps
+pub mod Turns
 pub mod Worked

@@ -1,3 +1,9 @@
+pub mod Encodings
 pub mod Nested
+pub mod Optional
+pub mod Outcomes
 pub mod Parsers
+pub mod Partial
+pub mod Query
 pub mod Reading
+pub mod Strings

@@ -1,9 +1,0 @@
-use Rattle.std.proofs.Common.{sym, ◌∙◌}
-use Rattle.query_engine.proofs.Answers.{accepted, refused_form}
-use Rattle.query_engine.proofs.engine.compile_tree.Goals as goal
-
-pub returns-then-is_evaluated-clause-core : goal.returns-then-is_evaluated-clause-core
-returns-then-is_evaluated-clause-core c = λ text q b. accepted text c.normalise.new.pool c.args.query.now c.in-Ok.core q b c.in-Ok.ensures.read (sym c.if-is_evaluated.true ∙ c.is_evaluated.ensures)
-
-pub returns-else-is_evaluated-clause-core : goal.returns-else-is_evaluated-clause-core
-returns-else-is_evaluated-clause-core c = λ text q b. refused_form text c.normalise.new.pool c.args.query.now c.in-Ok.core q b c.in-Ok.ensures.read (sym c.if-is_evaluated.false ∙ c.is_evaluated.ensures)

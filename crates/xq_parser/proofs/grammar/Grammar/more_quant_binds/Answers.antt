@@ -1,0 +1,5 @@
+use Rattle.std.proofs.Common.{rules}
+use Rattle.xq_parser.proofs.grammar.Grammar.more_quant_binds.Goals as goal
+
+pub returns : goal.returns
+returns g c = c.many.ensures _ (λ n x h. search rules)
