@@ -50,4 +50,4 @@ value_text (v.Chars t) = map blank_for t
 value_text (v.Reference t) = t
 value_text v.OpenBrace = 123 ∷ []
 value_text v.CloseBrace = 125 ∷ []
-value_text v.Quote = 34 ∷ []
+value_text (v.Quote t) = t

@@ -1,5 +1,5 @@
 -- Direct constructors (XQuery 1.0, sections 3.7.1 and 3.7.2).
-use Rattle.std.specs.Prelude.{ℕ, Bool, true, List, [], ◌∷◌, Option, Some, None, if◌then◌else◌, slice_range}
+use Rattle.std.specs.Prelude.{ℕ, Bool, true, List, [], ◌∷◌, Option, Some, None, if◌then◌else◌, slice_range, ◌+◌}
 use Rattle.std.specs.Char.{encode_utf8}
 use Rattle.xq_ast.specs.declared.look.Due.{Due}
 use Rattle.xq_ast.specs.declared.look.Due.TheVariants.{Operand, Tag, DoubleQuoted, SingleQuoted, Content}
@@ -34,7 +34,7 @@ value_run k.Chars text at to = value_.Chars (lines_of text at to)
 value_run k.Reference text at to = value_.Reference (referred text at)
 value_run k.DoubledOpen text at to = value_.OpenBrace
 value_run k.DoubledClose text at to = value_.CloseBrace
-value_run _ text at to = value_.Quote
+value_run _ text at to = value_.Quote (lines_of text (at + 1) to)
 
 abbrev pub value_runs : List Look
 value_runs = k.Chars ∷ k.Reference ∷ k.DoubledOpen ∷ k.DoubledClose ∷ k.DoubledQuote ∷ []

@@ -168,8 +168,8 @@ pub enum ValueRun {
     OpenBrace,
     /// `}}`
     CloseBrace,
-    /// The value's quote, doubled.
-    Quote,
+    /// The value's quote, which was doubled.
+    Quote(Items<u8>),
 }
 
 /// A maximal run of content as one text, and whether it is boundary space (XQuery 1.0, section 3.7.1.4).

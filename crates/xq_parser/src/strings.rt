@@ -73,6 +73,16 @@ fn referred(alloc: Global, text: &[u8], at: usize) -> Result<Items<u8>, AllocErr
     }
 }
 
+/// The second of two quotes between two places.
+fn second(alloc: Global, text: &[u8], at: usize, to: usize) -> Result<Items<u8>, AllocError>
+    ensures { IfOk result (λ found. found ≡ spec.lines_of text.now (at + 1) to) }
+{
+    match at.checked_add(1) {
+        Some(from) => lines_of(alloc, text, from, to),
+        None => Ok(Items::new(alloc)),
+    }
+}
+
 /// What a piece of a value between two places stands for, by its class (XQuery 1.0, productions 99 to 101).
 pub fn value_run(
     alloc: Global,
@@ -88,7 +98,7 @@ pub fn value_run(
         Look::Reference => Ok(ValueRun::Reference(referred(alloc, text, at)?)),
         Look::DoubledOpen => Ok(ValueRun::OpenBrace),
         Look::DoubledClose => Ok(ValueRun::CloseBrace),
-        _ => Ok(ValueRun::Quote),
+        _ => Ok(ValueRun::Quote(second(alloc, text, at, to)?)),
     }
 }
 
