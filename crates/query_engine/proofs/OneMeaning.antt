@@ -29,16 +29,16 @@ both_ways t f = let x = sym t ∙ f in cc
 
 -- a text is read in one way
 pub one_reading : (text : List ℕ) (a b : Reading) → Reads text a → Reads text b → a ≡ b
-one_reading text (tree q) (tree r) a b = ap tree (one_tree text q r a.1.0 b.1.0)
-one_reading text (tree q) (cut v m) a b = absurd (a.1.1 v m b.1.cut)
+one_reading text (tree q) (tree r) a b = ap tree (one_tree text q r a.1 b.1)
+one_reading text (tree q) (cut v m) a b = absurd (a.2 v m b.1.cut)
 one_reading text (tree q) no_query a (inl f) = absurd (both_ways a.0 f)
-one_reading text (tree q) no_query a (inr n) = absurd (n.no_tree q a.1.0)
-one_reading text (cut v m) (tree r) a b = absurd (b.1.1 v m a.1.cut)
+one_reading text (tree q) no_query a (inr n) = absurd (n.no_tree q a.1)
+one_reading text (cut v m) (tree r) a b = absurd (b.2 v m a.1.cut)
 one_reading text (cut v m) (cut w n) a b = one_cut text v w m n a.1 b.1
 one_reading text (cut v m) no_query a (inl f) = absurd (both_ways a.0 f)
 one_reading text (cut v m) no_query a (inr n) = absurd (n.no_cut v m a.1.cut)
 one_reading text no_query (tree r) (inl f) b = absurd (both_ways b.0 f)
-one_reading text no_query (tree r) (inr n) b = absurd (n.no_tree r b.1.0)
+one_reading text no_query (tree r) (inr n) b = absurd (n.no_tree r b.1)
 one_reading text no_query (cut w n) (inl f) b = absurd (both_ways b.0 f)
 one_reading text no_query (cut w n) (inr x) b = absurd (x.no_cut w n b.1.cut)
 one_reading text no_query no_query a b = refl

@@ -124,11 +124,7 @@ fn paren_part(alloc: Global, offset: u64, inner: Part) -> Result<Part, Want>
 }
 
 /// An expression and others behind it, if each is there.
-fn comma_of(
-    alloc: Global,
-    first: Option<Single>,
-    more: Option<Items<Single>>,
-) -> Result<Part, Want>
+fn comma_of(alloc: Global, first: Option<Single>, more: Option<Items<Single>>) -> Result<Part, Want>
     ensures { IfOk result (λ found. found ≡ or_other p.Several (with_first first more)) }
 {
     match (first, more) {
@@ -300,7 +296,12 @@ fn bind_with(
     if bind.ty.is_some() || bind.at.is_some() {
         return Ok(None);
     }
-    bound_by(alloc, bind.var.offset, bind.var.name.text.as_slice(), source)
+    bound_by(
+        alloc,
+        bind.var.offset,
+        bind.var.name.text.as_slice(),
+        source,
+    )
 }
 
 /// The bindings of a clause, or none.

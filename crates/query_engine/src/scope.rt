@@ -19,7 +19,11 @@ pub struct Refusal {
 fn sooner(first: Refusal, second: Refusal) -> Refusal
     ensures { result ≡ spec.sooner first second }
 {
-    if second.place < first.place { second } else { first }
+    if second.place < first.place {
+        second
+    } else {
+        first
+    }
 }
 
 /// The same of two that may be absent.
@@ -86,7 +90,11 @@ fn in_sum<'a>(alloc: Global, sum: &'a Sum, names: &Names<'a>) -> Result<Option<R
 }
 
 #[cycle(refused)]
-fn in_sources<'a>(alloc: Global, binds: &'a [Bind], names: &Names<'a>) -> Result<Option<Refusal>, Want>
+fn in_sources<'a>(
+    alloc: Global,
+    binds: &'a [Bind],
+    names: &Names<'a>,
+) -> Result<Option<Refusal>, Want>
     ensures { IfOk result (λ found. found ≡ least (sources_part (map spec.in_bind binds.now) names.now)) }
 {
     let mut first = None;
@@ -100,7 +108,11 @@ fn in_sources<'a>(alloc: Global, binds: &'a [Bind], names: &Names<'a>) -> Result
 
 #[cycle(refused)]
 #[tactic(auto, using(crate::proofs::Places::least_both))]
-fn in_single<'a>(alloc: Global, single: &'a Single, names: &Names<'a>) -> Result<Option<Refusal>, Want>
+fn in_single<'a>(
+    alloc: Global,
+    single: &'a Single,
+    names: &Names<'a>,
+) -> Result<Option<Refusal>, Want>
     ensures { IfOk result (λ found. found ≡ least (spec.in_single single.now names.now)) }
 {
     match single {
