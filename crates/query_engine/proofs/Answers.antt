@@ -45,7 +45,7 @@ accepted_core texts es core read t later k =
 
 -- what the static rules make of the query that a text is, is what they make of the text
 pub compiled : (text : List ℕ) (texts : Texts) (result : Result Core CompileFault) (query : Query) → Reads text (tree query) → GivesStatic (static_of (tree query)) texts result → Compiles text texts result
-compiled text texts (Ok core) query r g later k = (record { reading = tree query; read = r; is = (g later k).0 }, (g later k).1)
+compiled text texts (Ok core) query r g = λ later k. (record { reading = tree query; read = r; is = (g later k).0 }, (g later k).1)
 compiled text texts (Err NoMemory) query r g = tt
 compiled text texts (Err (Refused code place)) query r g = record { reading = tree query; read = r; is = g }
 
