@@ -193,7 +193,6 @@ impl<'a, N: Nested> Grammar<'a, N> {
     }
 
     /// NodeTest behind an axis (XQuery 1.0, production 78).
-    #[tactic(auto, unfolding(xq_ast::specs::Paths::test))]
     fn test(&self, at: usize) -> Result<(Test<Bytes>, usize), ParseFault>
         requires { N.reads self.now.nested self.now.depth }
         ensures { Reads self.now.text.now self.now.depth rule.test at result }
