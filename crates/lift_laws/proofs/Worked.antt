@@ -1,0 +1,113 @@
+-- The definitions on small expressions and tables.
+use Rattle.std.proofs.Common.{◌≡◌, ℕ, ◌+◌, [], ◌∷◌, pos, map, Some, true, false, refl}
+use Rattle.std.specs.List.{filter}
+use Rattle.xq_base.specs.declared.item.Atom.TheVariants as a
+use Rattle.xq_base.specs.declared.fun.Fun.TheVariants as f
+use Rattle.doc_table.specs.Tree.{Branch, OfDocument, TextNode, no_more as no_trees}
+use Rattle.doc_table.specs.Identity.{BuiltTree}
+use Rattle.doc_table.specs.Nodes.{root_path}
+use Rattle.doc_table.specs.Items.{IntItem, BoolItem, NodeItem}
+use Rattle.plan_dag.specs.declared.op.Op.TheVariants as o
+use Rattle.plan_dag.specs.Meaning.{Graph}
+use Rattle.core_meaning.specs.Expr.{Site, Apply, Make, Expr, Exprs, Lit, Var, Seq, For, Call, no_more, one_more}
+use Rattle.core_meaning.specs.Meaning.{no_variables}
+use Rattle.core_meaning.specs.Failures.{fails}
+use Rattle.core_meaning.specs.Work.{work}
+use Rattle.lift_laws.specs.Iterations.{Iter, num, value_rows}
+use Rattle.lift_laws.specs.Bulk.{value, chosen, inside, faults, cost}
+use Rattle.lift_laws.specs.Worlds.{World, cell_of}
+use Rattle.lift_laws.specs.States.{column, op_id, three, state_of, at, demand_at}
+use Rattle.lift_laws.specs.Shapes.{turn_map, seq_rows, back_rows, chosen_rows, restrict_rows}
+
+abbrev root : Iter
+root = record { number = 1; env = no_variables; vector = [] }
+
+abbrev int : ℕ → Expr
+int n = Lit (IntItem (pos n))
+
+abbrev two : Expr → Expr → Exprs
+two a b = one_more a (one_more b no_more)
+
+abbrev site : ℕ → Site
+site n = record { number = n; offset = 10 + n }
+
+-- for $x at $p in (5, 0) return ($x, $p)
+placed : Expr
+placed = For 1 2 (Seq (int 5) (int 0)) (Seq (Var 1) (Var 2))
+
+placed_value : map (value [] placed) (root ∷ []) ≡ (num 5 ∷ num 1 ∷ num 0 ∷ num 2 ∷ []) ∷ []
+unfolding placed
+placed_value = refl
+
+placed_rows : value_rows (value [] placed) (root ∷ []) ≡ (num 1 ∷ num 1 ∷ num 5 ∷ []) ∷ (num 1 ∷ num 2 ∷ num 1 ∷ []) ∷ (num 1 ∷ num 3 ∷ num 0 ∷ []) ∷ (num 1 ∷ num 4 ∷ num 2 ∷ []) ∷ []
+unfolding placed
+placed_rows = refl
+
+-- the body's iterations have numbers of their own, through all iterations outside, and vectors
+body_numbers : map (λ (i : Iter). i.number) (inside [] 1 2 (Seq (int 5) (int 0)) (root ∷ record { number = 4; env = no_variables; vector = 7 ∷ [] } ∷ [])) ≡ 1 ∷ 2 ∷ 3 ∷ 4 ∷ []
+body_numbers = refl
+
+body_vectors : map (λ (i : Iter). i.vector) (inside [] 1 2 (Seq (int 5) (int 0)) (root ∷ record { number = 4; env = no_variables; vector = 7 ∷ [] } ∷ [])) ≡ (1 ∷ []) ∷ (2 ∷ []) ∷ (7 ∷ 1 ∷ []) ∷ (7 ∷ 2 ∷ []) ∷ []
+body_vectors = refl
+
+-- for $x in (5, 0) return 8 idiv $x: it fails in the second iteration
+divided : Expr
+divided = For 1 2 (Seq (int 5) (int 0)) (Call (site 5) (Apply f.IntegerDivide) (two (int 8) (Var 1)))
+
+divided_numbers : map (λ x. x.number) (faults [] divided (root ∷ [])) ≡ 2 ∷ []
+unfolding divided
+divided_numbers = refl
+
+divided_failures : map (λ x. x.failure) (faults [] divided (root ∷ [])) ≡ fails [] divided no_variables []
+unfolding divided
+divided_failures = refl
+
+-- the work of all iterations at once is the work
+divided_cost : cost [] divided (root ∷ []) ≡ work [] divided no_variables []
+unfolding divided
+divided_cost = refl
+
+-- a branch has those iterations that choose it
+branches : map (λ (i : Iter). i.number) (filter (chosen [] (Call (site 2) (Apply f.Lt) (two (Var 1) (int 3)))) (inside [] 1 2 (Seq (int 5) (int 0)) (root ∷ []))) ≡ 2 ∷ []
+branches = refl
+
+-- in a table a built node has the number of its iteration for the vector
+world : World
+world n = record { site = site n; rule = Make TextNode; parts = no_more; its = inside [] 1 2 (Seq (int 5) (int 0)) (record { number = 3; env = no_variables; vector = 7 ∷ [] } ∷ []) }
+
+built_cell : cell_of world (NodeItem (record { id = BuiltTree 3 (7 ∷ 2 ∷ []); tree = Branch OfDocument no_trees; path = root_path })) ≡ NodeItem (record { id = BuiltTree 3 (2 ∷ []); tree = Branch OfDocument no_trees; path = root_path })
+unfolding world
+built_cell = refl
+
+-- the operators of each form, over rows in any order
+turns_numbered : turn_map ((num 1 ∷ num 2 ∷ num 8 ∷ []) ∷ (num 1 ∷ num 1 ∷ num 9 ∷ []) ∷ []) ≡ (num 1 ∷ num 2 ∷ num 8 ∷ num 2 ∷ []) ∷ (num 1 ∷ num 1 ∷ num 9 ∷ num 1 ∷ []) ∷ []
+turns_numbered = refl
+
+one_after_other : seq_rows ((num 1 ∷ num 1 ∷ num 5 ∷ []) ∷ (num 2 ∷ num 1 ∷ num 6 ∷ []) ∷ []) ((num 1 ∷ num 1 ∷ num 7 ∷ []) ∷ []) ≡ (num 1 ∷ num 1 ∷ num 5 ∷ []) ∷ (num 2 ∷ num 1 ∷ num 6 ∷ []) ∷ (num 1 ∷ num 2 ∷ num 7 ∷ []) ∷ []
+one_after_other = refl
+
+back_from_loop : back_rows ((num 4 ∷ num 1 ∷ num 8 ∷ num 1 ∷ []) ∷ (num 4 ∷ num 2 ∷ num 9 ∷ num 2 ∷ []) ∷ []) ((num 2 ∷ num 1 ∷ num 6 ∷ []) ∷ (num 1 ∷ num 1 ∷ num 5 ∷ []) ∷ []) ≡ (num 4 ∷ num 1 ∷ num 5 ∷ []) ∷ (num 4 ∷ num 2 ∷ num 6 ∷ []) ∷ []
+back_from_loop = refl
+
+-- true alone chooses: not false, and not two items
+choosing : chosen_rows ((num 1 ∷ num 1 ∷ BoolItem true ∷ []) ∷ (num 2 ∷ num 1 ∷ BoolItem true ∷ []) ∷ (num 2 ∷ num 2 ∷ BoolItem true ∷ []) ∷ (num 3 ∷ num 1 ∷ BoolItem false ∷ []) ∷ []) ≡ (num 1 ∷ []) ∷ []
+choosing = refl
+
+some_iterations : restrict_rows ((num 2 ∷ []) ∷ []) ((num 1 ∷ num 1 ∷ num 5 ∷ []) ∷ (num 2 ∷ num 1 ∷ num 6 ∷ []) ∷ []) ≡ (num 2 ∷ num 1 ∷ num 6 ∷ []) ∷ []
+some_iterations = refl
+
+-- the plan of the literal 5: a loop of one iteration, the position, the item
+five : Graph
+five = record {
+  ops = o.Unit (column 0) ∷ o.Attach (op_id 0) (column 1) (a.Int (pos 1)) ∷ o.Attach (op_id 1) (column 2) (a.Int (pos 5)) ∷ [];
+  checks = [];
+  root = Some (op_id 2);
+}
+
+five_stands : at (state_of [] [] five) (op_id 2) ≡ record { cols = three; rows = value_rows (value [] (int 5)) (root ∷ []) }
+unfolding five
+five_stands = refl
+
+five_demand : demand_at (state_of [] [] five) 2 ≡ 1
+unfolding five
+five_demand = refl

@@ -1,0 +1,225 @@
+-- Laws of the lift: each form of an expression is lifted by its parts' plans and by operators with the rows of its shape; and
+-- what the checks of a lifted expression answer.
+use Rattle.std.specs.Prelude.{◌≡◌, ℕ, ◌+◌, Bool, true, false, List, [], ◌∷◌, ◌++◌, length, map, is_none, Option}
+use Rattle.std.specs.List.{flat_map}
+use Rattle.xq_base.specs.declared.code.Code.{Code}
+use Rattle.xq_base.specs.declared.code.Code.TheVariants as c
+use Rattle.xq_base.specs.declared.fun.AtomKind.{AtomKind}
+use Rattle.xq_base.specs.declared.fun.Fun.TheVariants as f
+use Rattle.xq_base.specs.Texts.{Text}
+use Rattle.xq_base.specs.Atoms.{Atom}
+use Rattle.doc_table.specs.Items.{BoolItem}
+use Rattle.doc_table.specs.Values.{Items, item_of_atom}
+use Rattle.doc_table.specs.NodeRules.{Docs}
+use Rattle.plan_dag.specs.declared.op.OpId.{OpId}
+use Rattle.plan_dag.specs.declared.op.Op.{Op}
+use Rattle.plan_dag.specs.declared.check.Check.{Check}
+use Rattle.plan_dag.specs.Cells.{Rules}
+use Rattle.plan_dag.specs.ItemRules.{Cell, item_rules}
+use Rattle.plan_dag.specs.Meaning.{Graph, table_of, tables, demand_of, answer_from}
+use Rattle.plan_dag.specs.Schema.{is_valid}
+use Rattle.plan_dag.specs.Graphs.{Adds, in_graph, with_check}
+use Rattle.core_meaning.specs.Expr.{Site, Rule, Apply, CastableTo, FailWith, Expr, Exprs, Lit, Empty, Var, Seq, Let, For, If, Call, no_more, one_more}
+use Rattle.core_meaning.specs.Meaning.{val}
+use Rattle.core_meaning.specs.Failures.{fails}
+use Rattle.core_meaning.specs.Work.{free, without, work}
+use Rattle.core_meaning.specs.Lawful.{nodes, is_sited, sited_all, is_dynamic}
+use Rattle.lift_laws.specs.Sums.{AllOf, Same}
+use Rattle.lift_laws.specs.Iterations.{Row, Iter}
+use Rattle.lift_laws.specs.Bulk.{Fault, faults, cost}
+use Rattle.lift_laws.specs.Worlds.{World, cell_of, Known, Faithful, tree_under}
+use Rattle.lift_laws.specs.States.{State, state_of, step_at, at, IsIn, Makes, Checks, three, single}
+use Rattle.lift_laws.specs.Shapes.{less, beside, four, literal_rows, seq_rows, turn_map, inner_rows, item_var_rows, place_var_rows, back_rows, second_rows, chosen_rows, other_rows, either_rows, into_rows, restrict_rows, any_rows, named_rows, truth_rows, item_value_rows, data_rows, counted_rows, count_value_rows}
+use Rattle.lift_laws.specs.Lifting.{Group, checks_of, Tells, InCodeOrder, Lifts, LiftsAll, CallLifts, Fair, Rooted}
+use Rattle.lift_laws.specs.Carried.{set_var, CarryOne, CarriedFor, Carries, Restricts}
+use Rattle.lift_laws.specs.Stages.{Stages, ItemRule, rule_of, fun_of, codes_of, item_marks, item_most, uncastable_rows, castable_most, TextRule, text_fun, absent_item, text_value_rows}
+use Rattle.lift_laws.specs.Verdicts.{Verdict, SmallFrom}
+
+-- where nothing fails in any iteration, each has a value
+abbrev pub ValuesWhereNothingFails : Type 0
+ValuesWhereNothingFails = (docs : Docs) (e : Expr) (its : List Iter) → faults docs e its ≡ [] → AllOf (λ i. is_none (val docs e i.env i.vector) ≡ false) its
+
+-- a literal: its cell at position 1 of the loop
+abbrev pub LiteralLifts : Type 0
+LiteralLifts = (docs : Docs) (s s' : State) (n : ℕ) (a : Atom) (looped : OpId) (vars : ℕ → OpId) (t : OpId)
+    → Makes s s' t three (literal_rows (item_of_atom a) (at s looped).rows) (length (at s looped).rows) → Lifts docs s s' n (Lit (item_of_atom a)) looped vars t
+
+-- nothing: a table without rows
+abbrev pub NothingLifts : Type 0
+NothingLifts = (docs : Docs) (s s' : State) (n : ℕ) (looped : OpId) (vars : ℕ → OpId) (t : OpId) → Makes s s' t three [] 0 → Lifts docs s s' n Empty looped vars t
+
+-- a variable: its table
+abbrev pub VariableLifts : Type 0
+VariableLifts = (docs : Docs) (s : State) (n x : ℕ) (looped : OpId) (vars : ℕ → OpId) → Lifts docs s s n (Var x) looped vars (vars x)
+
+-- two parts one after the other: their tables with new positions
+abbrev pub SequenceLifts : Type 0
+SequenceLifts = (docs : Docs) (s s1 s2 s3 : State) (n : ℕ) (a b : Expr) (looped : OpId) (vars : ℕ → OpId) (ta tb t : OpId) → is_sited n (Seq a b) ≡ true
+    → Lifts docs s s1 n a looped vars ta → Lifts docs s1 s2 (n + nodes a) b looped vars tb
+    → Makes s2 s3 t three (seq_rows (at s2 ta).rows (at s2 tb).rows) (length (at s2 ta).rows + length (at s2 tb).rows)
+    → Lifts docs s s3 n (Seq a b) looped vars t
+
+-- a binding: the body, with the bound part's table for the variable
+abbrev pub BindingLifts : Type 0
+BindingLifts = (docs : Docs) (s s1 s2 : State) (n x : ℕ) (b e : Expr) (looped : OpId) (vars : ℕ → OpId) (tb t : OpId) → is_sited n (Let x b e) ≡ true
+    → Lifts docs s s1 n b looped vars tb → Lifts docs s1 s2 (n + nodes b) e looped (set_var vars x tb) t → Lifts docs s s2 n (Let x b e) looped vars t
+
+-- a loop: the map of its turns, the loop inside, its variables and those carried into it, the body, and the way back
+abbrev pub LoopLifts : Type 0
+LoopLifts = (docs : Docs) (s s1 s2 s3 s4 s5 s6 s7 s8 : State) (n x p : ℕ) (q e : Expr) (looped : OpId) (vars vars' : ℕ → OpId) (tq m inner vx vp te t : OpId) → is_sited n (For x p q e) ≡ true
+    → Lifts docs s s1 n q looped vars tq
+    → Makes s1 s2 m four (turn_map (at s1 tq).rows) (length (at s1 tq).rows)
+    → Makes s2 s3 inner single (inner_rows (at s2 m).rows) (length (at s2 m).rows)
+    → Makes s3 s4 vx three (item_var_rows (at s3 m).rows) (length (at s3 m).rows)
+    → Makes s4 s5 vp three (place_var_rows (at s4 m).rows) (length (at s4 m).rows)
+    → Carries s5 s6 m vars vars' x p e
+    → Lifts docs s6 s7 (n + nodes q) e inner (set_var (set_var vars' x vx) p vp) te
+    → Makes s7 s8 t three (back_rows (at s7 m).rows (at s7 te).rows) (length (at s7 m).rows + length (back_rows (at s7 m).rows (at s7 te).rows))
+    → Lifts docs s s8 n (For x p q e) looped vars t
+
+-- a choice: the loops of the iterations that choose each branch, the variables restricted to them, and both branches' tables
+abbrev pub ChoiceLifts : Type 0
+ChoiceLifts = (docs : Docs) (s s1 s2 s3 s4 s5 s6 s7 s8 : State) (n : ℕ) (d a b : Expr) (looped : OpId) (vars va vb : ℕ → OpId) (tc chosen_loop other_loop ta tb t : OpId) → is_sited n (If d a b) ≡ true
+    → Lifts docs s s1 n d looped vars tc
+    → Makes s1 s2 chosen_loop single (chosen_rows (at s1 tc).rows) (length (at s1 tc).rows)
+    → Makes s2 s3 other_loop single (other_rows (at s2 looped).rows (at s2 chosen_loop).rows) (length (at s2 looped).rows)
+    → Restricts s3 s4 chosen_loop vars va a
+    → Lifts docs s4 s5 (n + nodes d) a chosen_loop va ta
+    → Restricts s5 s6 other_loop vars vb b
+    → Lifts docs s6 s7 (n + nodes d + nodes a) b other_loop vb tb
+    → Makes s7 s8 t three (either_rows (at s7 ta).rows (at s7 tb).rows) (length (at s7 ta).rows + length (at s7 tb).rows)
+    → Lifts docs s s8 n (If d a b) looped vars t
+
+-- no parts: no tables
+abbrev pub NoPartsLift : Type 0
+NoPartsLift = (docs : Docs) (s : State) (n : ℕ) (looped : OpId) (vars : ℕ → OpId) → LiftsAll docs s s n no_more looped vars []
+
+-- the parts of a call: one after the other
+abbrev pub PartsLift : Type 0
+PartsLift = (docs : Docs) (s s1 s2 : State) (n : ℕ) (e : Expr) (es : Exprs) (looped : OpId) (vars : ℕ → OpId) (t : OpId) (ts : List OpId) → sited_all n (one_more e es) ≡ true
+    → Lifts docs s s1 n e looped vars t → LiftsAll docs s1 s2 (n + nodes e) es looped vars ts → LiftsAll docs s s2 n (one_more e es) looped vars (t ∷ ts)
+
+-- a call: its parts, and then its rule, lifted over cells
+abbrev pub CallsLift : Type 0
+CallsLift = (docs : Docs) (s s1 s2 : State) (n : ℕ) (site : Site) (r : Rule) (es : Exprs) (looped : OpId) (vars : ℕ → OpId) (ts : List OpId) (t : OpId) → is_sited n (Call site r es) ≡ true
+    → LiftsAll docs s s1 n es looped vars ts → CallLifts docs s1 s2 site r looped ts t → Lifts docs s s2 n (Call site r es) looped vars t
+
+-- a rule gives the same over cells as over items, and nodes of the world
+abbrev pub RulesAreFair : Type 0
+RulesAreFair = (docs : Docs) (site : Site) (r : Rule) → Fair docs site r
+
+-- a failure: a check of the loop, and a table without rows
+abbrev pub FailuresLift : Type 0
+FailuresLift = (docs : Docs) (s s1 s2 : State) (site : Site) (code : Code) (looped t : OpId) → is_dynamic code ≡ true → Makes s s1 t three [] 0
+    → Checks s1 s2 (record { op = looped; code = code; offset = site.offset }) → CallLifts docs s s2 site (FailWith code) looped [] t
+
+-- the constants: a literal
+abbrev pub ConstantsLift : Type 0
+ConstantsLift = (docs : Docs) (s s' : State) (site : Site) (looped t : OpId)
+    → (Makes s s' t three (literal_rows (BoolItem true) (at s looped).rows) (length (at s looped).rows) → CallLifts docs s s' site (Apply f.True) looped [] t)
+    × (Makes s s' t three (literal_rows (BoolItem false) (at s looped).rows) (length (at s looped).rows) → CallLifts docs s s' site (Apply f.False) looped [] t)
+
+-- `exists` and `empty`: a boolean by whether the argument has an item
+abbrev pub ExistsLifts : Type 0
+ExistsLifts = (docs : Docs) (s s' : State) (site : Site) (looped a t : OpId)
+    → Makes s s' t three (truth_rows true (at s looped).rows (any_rows (at s a).rows)) (length (at s looped).rows + length (at s looped).rows + length (at s a).rows) → CallLifts docs s s' site (Apply f.Exists) looped (a ∷ []) t
+
+abbrev pub EmptyLifts : Type 0
+EmptyLifts = (docs : Docs) (s s' : State) (site : Site) (looped a t : OpId)
+    → Makes s s' t three (truth_rows false (at s looped).rows (any_rows (at s a).rows)) (length (at s looped).rows + length (at s looped).rows + length (at s a).rows) → CallLifts docs s s' site (Apply f.Empty) looped (a ∷ []) t
+
+-- `zero-or-one`, `one-or-more` and `exactly-one`: a check of the iterations whose argument has another number of items, and the
+-- argument's table
+abbrev pub ZeroOrOneLifts : Type 0
+ZeroOrOneLifts = (docs : Docs) (s s1 s2 : State) (site : Site) (looped a k : OpId)
+    → Makes s s1 k single (named_rows (at s looped).rows (second_rows (at s a).rows)) (length (at s looped).rows + length (at s a).rows)
+    → Checks s1 s2 (record { op = k; code = c.FORG0003; offset = site.offset }) → CallLifts docs s s2 site (Apply f.ZeroOrOne) looped (a ∷ []) a
+
+abbrev pub OneOrMoreLifts : Type 0
+OneOrMoreLifts = (docs : Docs) (s s1 s2 : State) (site : Site) (looped a k : OpId)
+    → Makes s s1 k single (named_rows (at s looped).rows (less (at s looped).rows (any_rows (at s a).rows))) (length (at s looped).rows + length (at s a).rows)
+    → Checks s1 s2 (record { op = k; code = c.FORG0004; offset = site.offset }) → CallLifts docs s s2 site (Apply f.OneOrMore) looped (a ∷ []) a
+
+abbrev pub ExactlyOneLifts : Type 0
+ExactlyOneLifts = (docs : Docs) (s s1 s2 : State) (site : Site) (looped a k : OpId)
+    → Makes s s1 k single (named_rows (at s looped).rows (beside single (second_rows (at s a).rows) (less (at s looped).rows (any_rows (at s a).rows)))) (length (at s looped).rows + length (at s a).rows)
+    → Checks s1 s2 (record { op = k; code = c.FORG0005; offset = site.offset }) → CallLifts docs s s2 site (Apply f.ExactlyOne) looped (a ∷ []) a
+
+-- `data`: a map over the items
+abbrev pub DataLifts : Type 0
+DataLifts = (docs : Docs) (s s' : State) (site : Site) (looped a t : OpId) → Makes s s' t three (data_rows (at s a).rows) (length (at s a).rows) → CallLifts docs s s' site (Apply f.Data) looped (a ∷ []) t
+
+-- `count`: the counted iterations beside the loop, and 0 in the others
+abbrev pub CountLifts : Type 0
+CountLifts = (docs : Docs) (s s' : State) (site : Site) (looped a t : OpId)
+    → Makes s s' t three (count_value_rows (at s looped).rows (at s a).rows) (length (at s looped).rows + length (at s a).rows + length (counted_rows (at s looped).rows (at s a).rows))
+    → CallLifts docs s s' site (Apply f.Count) looped (a ∷ []) t
+
+-- signs and casts: a map over the items, and a check for each code
+abbrev pub ItemRulesLift : Type 0
+ItemRulesLift = (docs : Docs) (s s1 s2 : State) (site : Site) (q : ItemRule) (looped a t : OpId) (cs : List Check)
+    → Makes s s1 t three (item_value_rows (fun_of q) (at s a).rows) (length (at s a).rows)
+    → Stages site (item_most (fun_of q) (at s looped).rows (at s a).rows) s1 s2 (at s looped).rows (item_marks (fun_of q) (codes_of q) (at s a).rows) cs
+    → CallLifts docs s s2 site (rule_of q) looped (a ∷ []) t
+
+-- texts, lengths and names: a map over the items, an item where there is none, and a check
+abbrev pub TextRulesLift : Type 0
+TextRulesLift = (docs : Docs) (s s1 s2 : State) (site : Site) (q : TextRule) (looped a t : OpId) (cs : List Check)
+    → Makes s s1 t three (text_value_rows (text_fun q) (absent_item q) (at s looped).rows (at s a).rows) (length (at s looped).rows + length (at s a).rows)
+    → Stages site (item_most (text_fun q) (at s looped).rows (at s a).rows) s1 s2 (at s looped).rows (item_marks (text_fun q) [] (at s a).rows) cs
+    → CallLifts docs s s2 site (Apply (text_fun q)) looped (a ∷ []) t
+
+-- `castable as`: a boolean by whether the argument can be cast
+abbrev pub CastableLifts : Type 0
+CastableLifts = (docs : Docs) (s s' : State) (site : Site) (kind : AtomKind) (optional : Bool) (looped a t : OpId)
+    → Makes s s' t three (truth_rows false (at s looped).rows (uncastable_rows kind optional (at s looped).rows (at s a).rows)) (castable_most kind optional (at s looped).rows (at s a).rows)
+    → CallLifts docs s s' site (CastableTo kind optional) looped (a ∷ []) t
+
+-- the failures of all iterations at once are those of the reached evaluations
+abbrev pub FailuresAreReached : Type 0
+FailuresAreReached = (docs : Docs) (e : Expr) (its : List Iter) → Same (map (λ (f : Fault). f.failure) (faults docs e its)) (flat_map (λ i. fails docs e i.env i.vector) its)
+
+-- the cost of one iteration is the work of the reached evaluations
+abbrev pub CostIsWork : Type 0
+CostIsWork = (docs : Docs) (e : Expr) (i : Iter) → cost docs e (i ∷ []) ≡ work docs e i.env i.vector
+
+-- the first check that has a row answers the least failure; where none has one nothing fails, and the root's table is the answer
+abbrev pub ChecksAnswer : Type 0
+ChecksAnswer = (R : Rules Cell) (fs : List Fault) (root : Option OpId) (N : ℕ) (s : State) (lo hi : ℕ) (gs : List Group) → Tells N s lo hi gs fs
+    → AllOf (λ g. InCodeOrder g.checks) gs → AllOf (λ g. AllOf (λ (c : Check). c.offset ≡ g.site.offset) g.checks) gs
+    → Verdict R s.tables fs root (answer_from R s.tables (checks_of gs) root)
+
+-- behind an answer no operator has more rows than the demand
+abbrev pub DemandsAreSmall : Type 0
+DemandsAreSmall = (N : ℕ) (s : State) (hi : ℕ) (gs : List Group) (fs : List Fault) → Tells N s 0 hi gs fs → SmallFrom N s hi (checks_of gs)
+
+-- an operator that is handed to a valid plan is there with its table, whether the plan had it or not, and nothing else changes; of
+-- a step, which adds itself to the steps, this isn't said
+abbrev pub OperatorMakes : Type 0
+OperatorMakes = (docs : Docs) (texts : List Text) (g g' : Graph) (op : Op) (id : OpId) → is_valid g.ops ≡ true → step_at texts (length g.ops) op ≡ [] → Adds g op id g'
+    → let R = item_rules docs texts in let t = table_of R (tables R g.ops) op in Makes (state_of docs texts g) (state_of docs texts g') id t.cols t.rows (demand_of R op t)
+
+-- a check of an operator of the plan that is added to it
+abbrev pub CheckAdds : Type 0
+CheckAdds = (docs : Docs) (texts : List Text) (g : Graph) (c : Check) → in_graph g c.op → Checks (state_of docs texts g) (state_of docs texts (with_check c g)) c
+
+-- no variable is carried by nothing
+abbrev pub NoneCarried : Type 0
+NoneCarried = (R : List Row → List Row → List Row) (s : State) (m : OpId) (vars inner : ℕ → OpId) → CarriedFor R s s m vars inner []
+
+-- one more is carried behind the others
+abbrev pub OneMoreCarried : Type 0
+OneMoreCarried = (R : List Row → List Row → List Row) (s s1 s2 : State) (m : OpId) (vars inner : ℕ → OpId) (ys : List ℕ) (z : ℕ) (op : OpId) → IsIn s m → IsIn s (vars z)
+    → CarriedFor R s s1 m vars inner ys → CarryOne R s1 s2 m (vars z) op → CarriedFor R s s2 m vars (set_var inner z op) (ys ++ z ∷ [])
+
+-- the free variables of a loop's body but its own are those that the loop carries
+abbrev pub LoopCarries : Type 0
+LoopCarries = (s s' : State) (m : OpId) (vars inner : ℕ → OpId) (x p : ℕ) (e : Expr) → CarriedFor into_rows s s' m vars inner (without p (without x (free e))) → Carries s s' m vars inner x p e
+
+-- the free variables of a branch are those that it carries
+abbrev pub BranchCarries : Type 0
+BranchCarries = (s s' : State) (l : OpId) (vars inner : ℕ → OpId) (e : Expr) → CarriedFor restrict_rows s s' l vars inner (free e) → Restricts s s' l vars inner e
+
+-- under the identity of a known item's cell stands its tree
+abbrev pub TreesAreKnown : Type 0
+TreesAreKnown = (docs : Docs) (W : World) → Faithful W → (vs : Items) → AllOf (Known docs W) vs → AllOf (Rooted (tree_under docs W)) (map (cell_of W) vs)

@@ -1,0 +1,11 @@
+pub mod Sums
+pub mod Iterations
+pub mod Bulk
+pub mod Worlds
+pub mod States
+pub mod Shapes
+pub mod Lifting
+pub mod Carried
+pub mod Verdicts
+pub mod Stages
+pub mod Laws

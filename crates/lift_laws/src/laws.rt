@@ -1,0 +1,184 @@
+//! Laws of the lift, which a plan's maker cites.
+ghost use Rattle.lift_laws.specs.Laws.{BindingLifts, BranchCarries, CallsLift, CastableLifts, CheckAdds, ChecksAnswer, ChoiceLifts, ConstantsLift, CostIsWork, CountLifts, DataLifts, DemandsAreSmall, EmptyLifts, ExactlyOneLifts, ExistsLifts, FailuresAreReached, FailuresLift, ItemRulesLift, LiteralLifts, LoopCarries, LoopLifts, NoPartsLift, NoneCarried, NothingLifts, OneMoreCarried, OneOrMoreLifts, OperatorMakes, PartsLift, RulesAreFair, SequenceLifts, TextRulesLift, TreesAreKnown, ValuesWhereNothingFails, VariableLifts, ZeroOrOneLifts};
+
+/// Where nothing fails in any iteration, each has a value.
+#[tactic(auto, using(crate::proofs::Cases::values_where_nothing_fails))]
+pub fn values_where_nothing_fails()
+    ensures { ValuesWhereNothingFails }
+{}
+
+/// A literal is lifted by its cell at position 1 of the loop.
+#[tactic(auto, using(crate::proofs::Cases::literal_lifts))]
+pub fn literal_lifts()
+    ensures { LiteralLifts }
+{}
+
+/// Nothing is lifted by a table without rows.
+#[tactic(auto, using(crate::proofs::Cases::nothing_lifts))]
+pub fn nothing_lifts()
+    ensures { NothingLifts }
+{}
+
+/// A variable is lifted by its table.
+#[tactic(auto, using(crate::proofs::Cases::variable_lifts))]
+pub fn variable_lifts()
+    ensures { VariableLifts }
+{}
+
+/// Two parts one after the other are lifted by their tables with new positions.
+#[tactic(auto, using(crate::proofs::Cases::sequence_lifts))]
+pub fn sequence_lifts()
+    ensures { SequenceLifts }
+{}
+
+/// A binding is lifted by its body, with the bound part's table for the variable.
+#[tactic(auto, using(crate::proofs::Cases::binding_lifts))]
+pub fn binding_lifts()
+    ensures { BindingLifts }
+{}
+
+/// A loop is lifted by its body in the loop of its turns, and by the way back.
+pub fn loop_lifts()
+    ensures { LoopLifts }
+{}
+
+/// A choice is lifted by its branches in the loops of the iterations that choose them.
+pub fn choice_lifts()
+    ensures { ChoiceLifts }
+{}
+
+/// No parts are lifted by no tables.
+#[tactic(auto, using(crate::proofs::Cases::no_parts_lift))]
+pub fn no_parts_lift()
+    ensures { NoPartsLift }
+{}
+
+/// The parts of a call are lifted one after the other.
+pub fn parts_lift()
+    ensures { PartsLift }
+{}
+
+/// A call is lifted by its parts, and then by its own rule.
+pub fn calls_lift()
+    ensures { CallsLift }
+{}
+
+/// The failures of all iterations at once are those of the reached evaluations.
+pub fn failures_are_reached()
+    ensures { FailuresAreReached }
+{}
+
+/// The cost of one iteration is the work of the reached evaluations.
+pub fn cost_is_work()
+    ensures { CostIsWork }
+{}
+
+/// The first check that has a row answers the least failure, and the root's table is the answer where none has one.
+pub fn checks_answer()
+    ensures { ChecksAnswer }
+{}
+
+/// Behind an answer no operator has more rows than the demand.
+pub fn demands_are_small()
+    ensures { DemandsAreSmall }
+{}
+
+/// An operator that is handed to a valid plan is there with its table, and nothing else changes.
+pub fn operator_makes()
+    ensures { OperatorMakes }
+{}
+
+/// No variable is carried by nothing.
+pub fn none_carried()
+    ensures { NoneCarried }
+{}
+
+/// One more variable is carried behind the others.
+pub fn one_more_carried()
+    ensures { OneMoreCarried }
+{}
+
+/// A loop carries the free variables of its body but its own.
+pub fn loop_carries()
+    ensures { LoopCarries }
+{}
+
+/// A branch carries its free variables.
+pub fn branch_carries()
+    ensures { BranchCarries }
+{}
+
+/// Under the identity of a known item's cell stands its tree.
+pub fn trees_are_known()
+    ensures { TreesAreKnown }
+{}
+
+/// Each rule gives the same over cells as over items.
+pub fn rules_are_fair()
+    ensures { RulesAreFair }
+{}
+
+/// A failure is lifted by a check of its loop.
+pub fn failures_lift()
+    ensures { FailuresLift }
+{}
+
+/// `true` and `false` are lifted by their literals.
+pub fn constants_lift()
+    ensures { ConstantsLift }
+{}
+
+/// `exists` is lifted by a boolean for each iteration.
+pub fn exists_lifts()
+    ensures { ExistsLifts }
+{}
+
+/// `empty` is lifted by a boolean for each iteration.
+pub fn empty_lifts()
+    ensures { EmptyLifts }
+{}
+
+/// `zero-or-one` is lifted by a check and its argument's table.
+pub fn zero_or_one_lifts()
+    ensures { ZeroOrOneLifts }
+{}
+
+/// `one-or-more` is lifted by a check and its argument's table.
+pub fn one_or_more_lifts()
+    ensures { OneOrMoreLifts }
+{}
+
+/// `exactly-one` is lifted by a check and its argument's table.
+pub fn exactly_one_lifts()
+    ensures { ExactlyOneLifts }
+{}
+
+/// A check that is added changes no table.
+pub fn check_adds()
+    ensures { CheckAdds }
+{}
+
+/// `data` is lifted by a map over the items.
+pub fn data_lifts()
+    ensures { DataLifts }
+{}
+
+/// `count` is lifted by the counted iterations beside the loop, and 0 in the others.
+pub fn count_lifts()
+    ensures { CountLifts }
+{}
+
+/// Signs and casts are lifted by a map over the items and a check for each code.
+pub fn item_rules_lift()
+    ensures { ItemRulesLift }
+{}
+
+/// `castable as` is lifted by a boolean for each iteration.
+pub fn castable_lifts()
+    ensures { CastableLifts }
+{}
+
+/// Texts, their lengths and forms, and names of nodes are lifted by a map over the items and a check.
+pub fn text_rules_lift()
+    ensures { TextRulesLift }
+{}
