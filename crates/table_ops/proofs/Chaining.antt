@@ -3,6 +3,7 @@ use Rattle.std.proofs.Common.{◌≡◌, ◌<◌, ◌≤◌, ◌+◌, ◌++◌, 
 use Rattle.std.proofs.lemmas.Bool.Decides.{Decides-eqb}
 use Rattle.std.proofs.Math.Seq.{drop-cons}
 use Rattle.table_ops.specs.Chains.{places_of, Linked, LeadsOn, IsIndexFrom, IsUnlinked, AllBelow, pairs_from}
+use Rattle.table_ops.proofs.Lists.{joined_to}
 
 unfoldable pub AllAbove : ℕ → List ℕ → Type 0
 AllAbove i [] = Unit {0}
@@ -117,14 +118,6 @@ linked_once next p (q ∷ qs) [] h k = absurd (omega (arith, h.0, h.1, k))
 linked_once next p (q ∷ qs) (r ∷ rs) h k =
     let e : q ≡ r = sym h.0 ∙ k.0 in
     λ i. e i ∷ linked_once next (slice_index next q) qs rs h.2 (subst (λ z. Linked next (slice_index next z) rs) (sym e) k.2) i
-
-pub joined_to : {X : Type 0} (xs ys zs : List X) → (xs ++ ys) ++ zs ≡ xs ++ (ys ++ zs)
-joined_to [] ys zs = refl
-joined_to (x ∷ xs) ys zs = ap (λ (z : List _). x ∷ z) (joined_to xs ys zs)
-
-pub to_nothing : {X : Type 0} (xs : List X) → xs ++ [] ≡ xs
-to_nothing [] = refl
-to_nothing (x ∷ xs) = ap (λ (z : List _). x ∷ z) (to_nothing xs)
 
 -- one more left place
 pub pairs_turn : (l : ℕ) (ks rs : List ℕ) (out new all : List (ℕ × ℕ)) → l < length ks

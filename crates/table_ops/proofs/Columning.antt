@@ -7,7 +7,8 @@ use Rattle.plan_dag.specs.Padded.{col_eq}
 use Rattle.plan_dag.specs.Schema.{has_col}
 use Rattle.plan_dag.specs.Meaning.{cell_or}
 use Rattle.table_ops.specs.Columns.{numbers_from, no_cell, cell_of, row_at, rows_of, Column, cells_in, heads, AllHigh, KeepsColumns, column_at, cells_at}
-use Rattle.table_ops.proofs.Rowing.{by_places, as_many_columns}
+use Rattle.table_ops.proofs.Rowing.{by_places}
+use Rattle.table_ops.proofs.Lists.{maps, map_long, map_self, each_same}
 
 pub high_push : (n : ℕ) (vs : List Column) (v : Column) → AllHigh n (heads n vs) → length (take n v.value.items) ≡ n → AllHigh n (heads n (vs ++ v ∷ []))
 high_push n [] v h e = (e, tt)
@@ -16,7 +17,7 @@ high_push n (w ∷ vs) v h e = (h.0, high_push n vs v h.1 e)
 -- equal cells, equal columns
 pub keeps_cells : (cols : List Col) (vs ws : List Column) (n : ℕ) → cells_in ws ≡ cells_in vs → KeepsColumns cols vs n → KeepsColumns cols ws n
 keeps_cells cols vs ws n e k = record {
-  as_many = sym (as_many_columns (λ v. v.value.items) ws) ∙ ap (λ (z : List (List Item)). length z) e ∙ as_many_columns (λ v. v.value.items) vs ∙ k.as_many;
+  as_many = sym (map_long (λ v. v.value.items) ws) ∙ ap (λ (z : List (List Item)). length z) e ∙ map_long (λ v. v.value.items) vs ∙ k.as_many;
   as_high = subst (λ z. AllHigh n (map (take n) z)) (sym e) k.as_high;
 }
 
@@ -50,18 +51,6 @@ high_at (k ∷ ks) (v ∷ vs) c x n h e = by (col_eq k c) e (high_at ks vs c x n
     by true e rest = let same : v ≡ x = cc in ap length (sym same) ∙ h.0
     by false e rest = rest e
 
-maps : {X Y Z : Type 0} (f : Y → Z) (g : X → Y) (xs : List X) → map f (map g xs) ≡ map (λ x. f (g x)) xs
-maps f g [] = refl
-maps f g (x ∷ xs) = ap (λ z. f (g x) ∷ z) (maps f g xs)
-
-each_same : {X Y : Type 0} (f g : X → Y) (xs : List X) → ((x : X) → f x ≡ g x) → map f xs ≡ map g xs
-each_same f g [] e = refl
-each_same f g (x ∷ xs) e = λ i. e x i ∷ each_same f g xs e i
-
-map_self : {X : Type 0} (xs : List X) → map (λ x. x) xs ≡ xs
-map_self [] = refl
-map_self (x ∷ xs) = ap (λ z. x ∷ z) (map_self xs)
-
 pub column_cells : (cols : List Col) (cs : List (List Item)) (c : Col) (x : List Item) (n : ℕ) → AllHigh n cs → column_at cols cs c ≡ Some x → cells_at cols c (rows_of cs n) ≡ x
 column_cells cols cs c x n h e =
     maps (cell_or no_cell cols c) (row_at cs) (numbers_from 0 n)
@@ -88,7 +77,7 @@ module _ {X : Type 0} (f : X → List Item) (ks cols : List Col) (vs columns : L
   pub lent_found : (r : Option X) → option_map f r ≡ column_at ks (heads n vs) c → is_some r ≡ has_col cols c
   lent_found r e =
       sym (some_mapped f r) ∙ ap is_some (e ∙ same_column)
-      ∙ column_there cols (heads n columns) c (as_many_columns (take n) (cells_in columns) ∙ as_many_columns (λ w. w.value.items) columns ∙ keeps.as_many)
+      ∙ column_there cols (heads n columns) c (map_long (take n) (cells_in columns) ∙ map_long (λ w. w.value.items) columns ∙ keeps.as_many)
 
   pub lent_cells : (r : Option X) → option_map f r ≡ column_at ks (heads n vs) c → IfSome r (λ s. f s ≡ cells_at cols c (rows_of (heads n columns) n))
   lent_cells None e = tt

@@ -7,19 +7,8 @@ use Rattle.plan_dag.specs.Padded.{col_eq}
 use Rattle.plan_dag.specs.Schema.{has_col, has_cols}
 use Rattle.plan_dag.specs.Meaning.{cell_or, Table}
 use Rattle.table_ops.specs.Columns.{numbers_from, no_cell, cell_of, row_at, rows_of, Column, cells_in, heads, AllHigh, KeepsColumns, AllWithin, rows_at, gathered, extended, column_or, zipped, rows_beside, single_rows, cells_of}
-use Rattle.table_ops.proofs.Rowing.{by_places, drop_all, gathered_rows, rows_at_places, gathered_high, as_many_columns, as_many_rows}
-
-map_append : {X Y : Type 0} (f : X → Y) (xs ys : List X) → map f (xs ++ ys) ≡ map f xs ++ map f ys
-map_append f [] ys = refl
-map_append f (x ∷ xs) ys = ap (λ (z : List _). f x ∷ z) (map_append f xs ys)
-
-maps : {X Y Z : Type 0} (f : Y → Z) (g : X → Y) (xs : List X) → map f (map g xs) ≡ map (λ x. f (g x)) xs
-maps f g [] = refl
-maps f g (x ∷ xs) = ap (λ z. f (g x) ∷ z) (maps f g xs)
-
-each_same : {X Y : Type 0} (f g : X → Y) (xs : List X) → ((x : X) → f x ≡ g x) → map f xs ≡ map g xs
-each_same f g [] e = refl
-each_same f g (x ∷ xs) e = λ i. e x i ∷ each_same f g xs e i
+use Rattle.table_ops.proofs.Rowing.{by_places, drop_all, gathered_rows, rows_at_places, gathered_high, as_many_rows}
+use Rattle.table_ops.proofs.Lists.{maps, map_append, map_long, each_same, long_append}
 
 -- beside each other
 beside_from : (as' bs : List (List Item)) (k n : ℕ) → map (row_at (as' ++ bs)) (numbers_from k n) ≡ rows_beside (map (row_at as') (numbers_from k n)) (map (row_at bs) (numbers_from k n))
@@ -112,12 +101,12 @@ lone_high (v ∷ row) = (refl, lone_high row)
 pub extended_rows : (cs : List (List Item)) (row : List Item) (n t : ℕ) → length row ≡ length cs → AllHigh n cs → t ≡ n + 1 → rows_of (extended cs row) t ≡ rows_of cs n ++ row ∷ []
 extended_rows cs row n t e h s =
     ap (λ z. rows_of z t) (one_more cs row e)
-    ∙ stacked_rows cs (map (λ v. v ∷ []) row) n 1 t (sym e ∙ sym (as_many_columns (λ v. v ∷ []) row)) h s
+    ∙ stacked_rows cs (map (λ v. v ∷ []) row) n 1 t (sym e ∙ sym (map_long (λ v. v ∷ []) row)) h s
     ∙ ap (λ z. rows_of cs n ++ z ∷ []) (lone_row row)
 
 pub extended_high : (cs : List (List Item)) (row : List Item) (n t : ℕ) → length row ≡ length cs → AllHigh n cs → t ≡ n + 1 → AllHigh t (extended cs row)
 extended_high cs row n t e h s =
-    subst (AllHigh t) (sym (one_more cs row e)) (stacked_high cs (map (λ v. v ∷ []) row) n 1 t (sym e ∙ sym (as_many_columns (λ v. v ∷ []) row)) h (lone_high row) s)
+    subst (AllHigh t) (sym (one_more cs row e)) (stacked_high cs (map (λ v. v ∷ []) row) n 1 t (sym e ∙ sym (map_long (λ v. v ∷ []) row)) h (lone_high row) s)
 
 pub extended_many : (cs : List (List Item)) (row : List Item) → length (extended cs row) ≡ length cs
 extended_many [] row = refl
@@ -198,7 +187,7 @@ single_is cells = by_places no_cell (λ c. c ∷ []) [] cells
 -- what a table of columns needs
 pub keeps_from : (cols : List Col) (ws : List Column) (n : ℕ) (cs : List (List Item)) → cells_in ws ≡ cs → length cs ≡ length cols → AllHigh n (map (take n) cs) → KeepsColumns cols ws n
 keeps_from cols ws n cs e m h = record {
-  as_many = sym (as_many_columns (λ w. w.value.items) ws) ∙ ap (λ (z : List (List Item)). length z) e ∙ m;
+  as_many = sym (map_long (λ w. w.value.items) ws) ∙ ap (λ (z : List (List Item)). length z) e ∙ m;
   as_high = subst (λ z. AllHigh n (map (take n) z)) (sym e) h;
 }
 
@@ -210,11 +199,11 @@ rows_are : (cs : List (List Item)) (n : ℕ) (ws : List Column) → cells_in ws 
 rows_are cs n ws e h = ap (λ z. rows_of (map (take n) z) n) e ∙ ap (λ z. rows_of z n) (heads_all n cs h)
 
 many_heads : (cols : List Col) (vs : List Column) (n : ℕ) → KeepsColumns cols vs n → length (heads n vs) ≡ length cols
-many_heads cols vs n k = as_many_columns (take n) (cells_in vs) ∙ as_many_columns (λ w. w.value.items) vs ∙ k.as_many
+many_heads cols vs n k = map_long (take n) (cells_in vs) ∙ map_long (λ w. w.value.items) vs ∙ k.as_many
 
 pub gathered_keeps : (cols : List Col) (vs ws : List Column) (n : ℕ) (ps : List ℕ) → KeepsColumns cols vs n → cells_in ws ≡ gathered ps (heads n vs) → KeepsColumns cols ws (length ps)
 gathered_keeps cols vs ws n ps k e =
-    keeps_from cols ws (length ps) (gathered ps (heads n vs)) e (as_many_columns (λ c. map (cell_of c) ps) (heads n vs) ∙ many_heads cols vs n k)
+    keeps_from cols ws (length ps) (gathered ps (heads n vs)) e (map_long (λ c. map (cell_of c) ps) (heads n vs) ∙ many_heads cols vs n k)
     (high_heads (length ps) (gathered ps (heads n vs)) (gathered_high ps (heads n vs)))
 
 pub gathered_table : (vs ws : List Column) (n : ℕ) (ps : List ℕ) → AllWithin n ps → cells_in ws ≡ gathered ps (heads n vs) → rows_of (heads (length ps) ws) (length ps) ≡ rows_at (rows_of (heads n vs) n) ps
@@ -225,7 +214,7 @@ gathered_table vs ws n ps w e =
 
 pub chosen_keeps : (cols ds names : List Col) (vs ws : List Column) (n : ℕ) → KeepsColumns cols vs n → length names ≡ length ds → has_cols cols ds ≡ true → cells_in ws ≡ map (column_or cols (cells_in vs)) ds → KeepsColumns names ws n
 chosen_keeps cols ds names vs ws n k m t e =
-    keeps_from names ws n (map (column_or cols (cells_in vs)) ds) e (as_many_columns (column_or cols (cells_in vs)) ds ∙ sym m)
+    keeps_from names ws n (map (column_or cols (cells_in vs)) ds) e (map_long (column_or cols (cells_in vs)) ds ∙ sym m)
     (subst (AllHigh n) (sym (heads_chosen n cols ds (cells_in vs))) (chosen_high n cols ds (heads n vs) (many_heads cols vs n k) k.as_high t))
 
 pub chosen_table : (cols ds : List Col) (vs ws : List Column) (n : ℕ) → cells_in ws ≡ map (column_or cols (cells_in vs)) ds → rows_of (heads n ws) n ≡ map (cells_of cols ds) (rows_of (heads n vs) n)
@@ -237,14 +226,10 @@ chosen_table cols ds vs ws n e =
 heads_beside : (n : ℕ) (as' bs : List (List Item)) → map (take n) (as' ++ bs) ≡ map (take n) as' ++ map (take n) bs
 heads_beside n as' bs = map_append (take n) as' bs
 
-long_append : {X : Type 0} (xs ys : List X) → length (xs ++ ys) ≡ length xs + length ys
-long_append [] ys = omega arith
-long_append (x ∷ xs) ys = omega (arith, long_append xs ys)
-
 pub beside_keeps : (cols ds : List Col) (vs us ws : List Column) (n : ℕ) → KeepsColumns cols vs n → KeepsColumns ds us n → cells_in ws ≡ cells_in vs ++ cells_in us → KeepsColumns (cols ++ ds) ws n
 beside_keeps cols ds vs us ws n k m e =
     keeps_from (cols ++ ds) ws n (cells_in vs ++ cells_in us) e
-    (long_append (cells_in vs) (cells_in us) ∙ (λ i. (as_many_columns (λ w. w.value.items) vs ∙ k.as_many) i + (as_many_columns (λ w. w.value.items) us ∙ m.as_many) i) ∙ sym (long_append cols ds))
+    (long_append (cells_in vs) (cells_in us) ∙ (λ i. (map_long (λ w. w.value.items) vs ∙ k.as_many) i + (map_long (λ w. w.value.items) us ∙ m.as_many) i) ∙ sym (long_append cols ds))
     (subst (AllHigh n) (sym (heads_beside n (cells_in vs) (cells_in us))) (high_append n (heads n vs) (heads n us) k.as_high m.as_high))
 
 pub beside_table : (vs us ws : List Column) (n : ℕ) → cells_in ws ≡ cells_in vs ++ cells_in us → rows_of (heads n ws) n ≡ rows_beside (rows_of (heads n vs) n) (rows_of (heads n us) n)
@@ -287,7 +272,7 @@ pushed_table cols vs ws n t row k m s e =
 -- the same heads, the same table
 pub heads_keep : (cols : List Col) (vs ws : List Column) (n : ℕ) → KeepsColumns cols vs n → heads n ws ≡ heads n vs → KeepsColumns cols ws n
 heads_keep cols vs ws n k e = record {
-  as_many = sym (as_many_columns (λ w. w.value.items) ws) ∙ sym (as_many_columns (take n) (cells_in ws)) ∙ ap (λ (z : List (List Item)). length z) e ∙ many_heads cols vs n k;
+  as_many = sym (map_long (λ w. w.value.items) ws) ∙ sym (map_long (take n) (cells_in ws)) ∙ ap (λ (z : List (List Item)). length z) e ∙ many_heads cols vs n k;
   as_high = subst (AllHigh n) (sym e) k.as_high;
 }
 

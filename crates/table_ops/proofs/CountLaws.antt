@@ -16,30 +16,11 @@ use Rattle.table_ops.proofs.Combining.{whole, if_ok_is}
 use Rattle.table_ops.proofs.ItemEqual.{item_same, item_self}
 use Rattle.table_ops.proofs.Keying.{AllThere, keys_are, all_there, tells, keys_below, place_stays, place_put, place_last}
 use Rattle.table_ops.proofs.MatchLaws.{any_append}
-
-map_long : {X Y : Type 0} (f : X → Y) (xs : List X) → length (map f xs) ≡ length xs
-map_long f [] = refl
-map_long f (x ∷ xs) = ap suc (map_long f xs)
-
-maps : {X Y Z : Type 0} (f : Y → Z) (g : X → Y) (xs : List X) → map f (map g xs) ≡ map (λ x. f (g x)) xs
-maps f g [] = refl
-maps f g (x ∷ xs) = ap (λ z. f (g x) ∷ z) (maps f g xs)
-
-map_append : {X Y : Type 0} (f : X → Y) (xs ys : List X) → map f (xs ++ ys) ≡ map f xs ++ map f ys
-map_append f [] ys = refl
-map_append f (x ∷ xs) ys = ap (λ (z : List _). f x ∷ z) (map_append f xs ys)
+use Rattle.table_ops.proofs.Lists.{maps, map_append, map_long, longer, to_nothing, each_same}
 
 join_lists : {X : Type 0} (xs : List X) (y : X) (zs : List X) → (xs ++ y ∷ []) ++ zs ≡ xs ++ y ∷ zs
 join_lists [] y zs = refl
 join_lists (x ∷ xs) y zs = ap (λ (z : List _). x ∷ z) (join_lists xs y zs)
-
-to_nothing : {X : Type 0} (xs : List X) → xs ++ [] ≡ xs
-to_nothing [] = refl
-to_nothing (x ∷ xs) = ap (λ (z : List _). x ∷ z) (to_nothing xs)
-
-longer : {X : Type 0} (xs : List X) (y : X) → length (xs ++ y ∷ []) ≡ suc (length xs)
-longer [] y = refl
-longer (x ∷ xs) y = ap suc (longer xs y)
 
 turn_or : (a b : Bool) → a || b ≡ b || a
 turn_or true true = refl
@@ -52,7 +33,7 @@ module _ {X : Type 0} (f : X → Item) where
   abbrev same_rows : X → X → Bool
   same_rows q r = item_eq (f q) (f r)
 
-  first_cells : (t : List Item) (seen rows : List X) → ((x : X) → has (λ q r. item_eq (f q) (f r)) x seen ≡ list_any (item_eq (f x)) t) → insert_all item_eq t (map f rows) ≡ t ++ map f (firsts (λ q r. item_eq (f q) (f r)) seen rows)
+  pub first_cells : (t : List Item) (seen rows : List X) → ((x : X) → has (λ q r. item_eq (f q) (f r)) x seen ≡ list_any (item_eq (f x)) t) → insert_all item_eq t (map f rows) ≡ t ++ map f (firsts (λ q r. item_eq (f q) (f r)) seen rows)
   first_cells t seen [] h = sym (to_nothing t)
   first_cells t seen (x ∷ rows) h =
       by (has (λ q r. item_eq (f q) (f r)) x seen) (list_any (item_eq (f x)) t) (h x) (first_cells t seen rows h)
@@ -135,10 +116,6 @@ module _ {X : Type 0} (f : X → Item) (t : List Item) where
 beside_mapped : {X : Type 0} (g : X → Item) (k : X → ℕ) (h : ℕ → Item) (xs : List X) → rows_beside (single_rows (map g xs)) (single_rows (map h (map k xs))) ≡ map (λ x. g x ∷ h (k x) ∷ []) xs
 beside_mapped g k h [] = refl
 beside_mapped g k h (x ∷ xs) = ap (λ z. (g x ∷ h (k x) ∷ []) ∷ z) (beside_mapped g k h xs)
-
-each_same : {X Y : Type 0} (f g : X → Y) (xs : List X) → ((x : X) → f x ≡ g x) → map f xs ≡ map g xs
-each_same f g [] e = refl
-each_same f g (x ∷ xs) e = λ i. e x i ∷ each_same f g xs e i
 
 module _ (cols : List Col) (c : Col) (rows : List (List Item)) where
   abbrev F : List Item → Item

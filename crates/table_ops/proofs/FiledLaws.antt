@@ -11,10 +11,7 @@ use Rattle.table_ops.specs.Keys.{item_eq, place_in, keys_from}
 use Rattle.table_ops.proofs.ItemEqual.{item_same, item_self}
 use Rattle.table_ops.proofs.Keying.{AllThere, keys_are, all_there, tells, keys_below, found}
 use Rattle.table_ops.proofs.MatchLaws.{places_told}
-
-long_append : {X : Type 0} (xs ys : List X) → length (xs ++ ys) ≡ length xs + length ys
-long_append [] ys = omega arith
-long_append (x ∷ xs) ys = omega (arith, long_append xs ys)
+use Rattle.table_ops.proofs.Lists.{long_append}
 
 at_before : {X : Type 0} (xs : List X) (y : X) (k : ℕ) (d : X) → k < length xs → slice_index_or (xs ++ y ∷ []) k d ≡ slice_index_or xs k d
 at_before [] y k d h = absurd (omega (arith, h))

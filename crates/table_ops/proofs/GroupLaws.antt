@@ -14,14 +14,7 @@ use Rattle.table_ops.proofs.FirstRows.{first_rows_are}
 use Rattle.table_ops.proofs.ItemEqual.{item_same, item_self}
 use Rattle.table_ops.proofs.Keying.{keys_are, all_there, tells, tells_rows, in_turn}
 use Rattle.table_ops.proofs.Selecting.{new_within}
-
-map_long : {X Y : Type 0} (f : X → Y) (xs : List X) → length (map f xs) ≡ length xs
-map_long f [] = refl
-map_long f (x ∷ xs) = ap suc (map_long f xs)
-
-maps : {X Y Z : Type 0} (f : Y → Z) (g : X → Y) (xs : List X) → map f (map g xs) ≡ map (λ x. f (g x)) xs
-maps f g [] = refl
-maps f g (x ∷ xs) = ap (λ z. f (g x) ∷ z) (maps f g xs)
+use Rattle.table_ops.proofs.Lists.{maps, map_long}
 
 both_true : (a b : Bool) → a && b ≡ true → (a ≡ true) × (b ≡ true)
 both_true true b h = (refl, h)

@@ -1,3 +1,4 @@
+pub mod CellOrders
 pub mod Chaining
 pub mod Columning
 pub mod Combining
@@ -8,9 +9,13 @@ pub mod GroupLaws
 pub mod ItemEqual
 pub mod Joining
 pub mod Keying
+pub mod Lists
 pub mod MatchLaws
 pub mod OperatorLaws
+pub mod OrderCounts
 pub mod PlainLaws
+pub mod RangeLaws
 pub mod Rowing
+pub mod RownumLaws
 pub mod Selecting
 pub mod TallyLaws

@@ -17,14 +17,7 @@ use Rattle.table_ops.proofs.Joining.{joined_by_places}
 use Rattle.table_ops.proofs.ItemEqual.{item_same, item_self}
 use Rattle.table_ops.proofs.Keying.{keys_are, all_there, tells, tells_rows, keys_of, keys_below, place_le, there_is}
 use Rattle.table_ops.proofs.Selecting.{picked, within_from, lefts_within, rights_within, pairs_beside}
-
-map_long : {X Y : Type 0} (f : X → Y) (xs : List X) → length (map f xs) ≡ length xs
-map_long f [] = refl
-map_long f (x ∷ xs) = ap suc (map_long f xs)
-
-maps : {X Y Z : Type 0} (f : Y → Z) (g : X → Y) (xs : List X) → map f (map g xs) ≡ map (λ x. f (g x)) xs
-maps f g [] = refl
-maps f g (x ∷ xs) = ap (λ z. f (g x) ∷ z) (maps f g xs)
+use Rattle.table_ops.proofs.Lists.{maps, map_long}
 
 places_same : {X Y : Type 0} (p : X → Bool) (q : Y → Bool) (f : X → Y) (i : ℕ) (xs : List X) → ((x : X) → p x ≡ q (f x)) → places_of p i xs ≡ places_of q i (map f xs)
 places_same p q f i [] h = refl

@@ -12,8 +12,8 @@ use Rattle.table_ops.specs.Matches.{equal_pairs_from, lone_places}
 use Rattle.table_ops.proofs.Combining.{whole, if_ok_is}
 use Rattle.table_ops.proofs.GroupLaws.{distinct_rows, distinct_within}
 use Rattle.table_ops.proofs.MatchLaws.{join_rows, join_left_within, join_right_within, difference_rows, difference_within}
-use Rattle.table_ops.proofs.Rowing.{as_many_columns}
 use Rattle.table_ops.proofs.Selecting.{places_many}
+use Rattle.table_ops.proofs.Lists.{map_long}
 
 module _ (l q : Table Item) (a b : Col) (lp rp : List ℕ) (lc rc : List Item) (ps : List (ℕ × ℕ))
     (el : lp ≡ map (λ p. p.0) ps) (er : rp ≡ map (λ p. p.1) ps) (ep : ps ≡ equal_pairs_from item_eq 0 lc rc) (f : lc ≡ cells_at l.cols a l.rows) (g : rc ≡ cells_at q.cols b q.rows) where
@@ -32,8 +32,8 @@ module _ (l q : Table Item) (a b : Col) (lp rp : List ℕ) (lc rc : List Item) (
 
     pub join_high : length L.rows ≡ length Q.rows
     join_high =
-        ap (λ (t : Table Item). length t.rows) eL ∙ places_many l.rows lp ∙ ap (λ (z : List ℕ). length z) el ∙ as_many_columns (λ p. p.0) ps
-        ∙ sym (ap (λ (t : Table Item). length t.rows) eQ ∙ places_many q.rows rp ∙ ap (λ (z : List ℕ). length z) er ∙ as_many_columns (λ p. p.1) ps)
+        ap (λ (t : Table Item). length t.rows) eL ∙ places_many l.rows lp ∙ ap (λ (z : List ℕ). length z) el ∙ map_long (λ p. p.0) ps
+        ∙ sym (ap (λ (t : Table Item). length t.rows) eQ ∙ places_many q.rows rp ∙ ap (λ (z : List ℕ). length z) er ∙ map_long (λ p. p.1) ps)
 
     pub join_whole : {E : Type 0} (r : Result (Table Item) E) → IfOk r (λ t. t ≡ whole (L.cols ++ Q.cols) (rows_beside L.rows Q.rows))
         → IfOk r (λ t. t ≡ whole (l.cols ++ q.cols) (joined kept (cell_or no_cell l.cols a) (cell_or no_cell q.cols b) l.rows q.rows))

@@ -8,8 +8,8 @@ use Rattle.std.proofs.lemmas.List.{length-replicate}
 use Rattle.table_ops.specs.Columns.{rows_beside, single_rows}
 use Rattle.table_ops.specs.Held.{held_constant}
 use Rattle.table_ops.proofs.Combining.{whole, if_ok_is}
-use Rattle.table_ops.proofs.Rowing.{as_many_columns}
 use Rattle.table_ops.proofs.Selecting.{attached_rows}
+use Rattle.table_ops.proofs.Lists.{map_long}
 
 long_append : {X : Type 0} (xs : List X) (y : X) → length (xs ++ y ∷ []) ≡ length xs + 1
 long_append [] y = refl
@@ -19,7 +19,7 @@ pub attach_need : (t added : Table Item) (c : Col) (w : Item) (n : ℕ) (cells :
     → (length t.cols + length added.cols < 9) × (length t.rows ≡ length added.rows)
 attach_need t added c w n cells h e a few =
     let cols : length added.cols ≡ 1 = ap (λ (z : Table Item). length z.cols) a in
-    let rows : length added.rows ≡ n = ap (λ (z : Table Item). length z.rows) a ∙ as_many_columns (λ v. v ∷ []) cells ∙ ap (λ (z : List Item). length z) e ∙ length-replicate n w in
+    let rows : length added.rows ≡ n = ap (λ (z : Table Item). length z.rows) a ∙ map_long (λ v. v ∷ []) cells ∙ ap (λ (z : List Item). length z) e ∙ length-replicate n w in
     (omega (arith, cols, few), sym h ∙ sym rows)
 
 pub attach_whole : {E : Type 0} (r : Result (Table Item) E) (t added : Table Item) (c : Col) (v : Atom) (w : Item) (n : ℕ) (cells : List Item) → n ≡ length t.rows → w ≡ held_constant v → cells ≡ replicate n w → added ≡ whole (c ∷ []) (single_rows cells)

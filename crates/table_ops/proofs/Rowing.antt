@@ -72,7 +72,3 @@ gathered_high ps (c ∷ cs) = (length_map (cell_of c) ps, gathered_high ps cs)
     length_map : {X Y : Type 0} (f : X → Y) (xs : List X) → length (map f xs) ≡ length xs
     length_map f [] = refl
     length_map f (x ∷ xs) = ap suc (length_map f xs)
-
-pub as_many_columns : {X Y : Type 0} (f : X → Y) (xs : List X) → length (map f xs) ≡ length xs
-as_many_columns f [] = refl
-as_many_columns f (x ∷ xs) = ap suc (as_many_columns f xs)

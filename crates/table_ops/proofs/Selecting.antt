@@ -10,18 +10,7 @@ use Rattle.table_ops.specs.Columns.{rows_at, AllWithin, rows_beside, single_rows
 use Rattle.table_ops.specs.Joins.{pair_rows}
 use Rattle.table_ops.specs.Keys.{new_places}
 use Rattle.table_ops.specs.Picks.{is_true_item}
-
-app : {X : Type 0} (xs : List X) (y : X) (zs : List X) → (xs ++ y ∷ []) ++ zs ≡ xs ++ y ∷ zs
-app [] y zs = refl
-app (x ∷ xs) y zs = ap (λ (z : List _). x ∷ z) (app xs y zs)
-
-longer : {X : Type 0} (done : List X) (p : X) → length (done ++ p ∷ []) ≡ suc (length done)
-longer [] p = refl
-longer (d ∷ done) p = ap suc (longer done p)
-
-at_end : {X : Type 0} (done : List X) (p : X) (ps : List X) (d : X) → slice_index_or (done ++ p ∷ ps) (length done) d ≡ p
-at_end [] p ps d = refl
-at_end (x ∷ done) p ps d = at_end done p ps d
+use Rattle.table_ops.proofs.Lists.{app, map_long, longer, at_end}
 
 module _ {C X : Type 0} (test : X → Bool) (g : List C → X) where
   pub picked : (done rows : List (List C)) → rows_at (done ++ rows) (places_of test (length done) (map g rows)) ≡ filter (λ r. test (g r)) rows
@@ -45,10 +34,6 @@ within_from test i n (x ∷ xs) h = by (test x) (within_from test (suc i) n xs (
     by : (b : Bool) → AllWithin n (places_of test (suc i) xs) → AllWithin n (cond b (i ∷ places_of test (suc i) xs) (places_of test (suc i) xs))
     by true r = (omega (arith, h), r)
     by false r = r
-
-map_long : {X Y : Type 0} (f : X → Y) (xs : List X) → length (map f xs) ≡ length xs
-map_long f [] = refl
-map_long f (x ∷ xs) = ap suc (map_long f xs)
 
 pub cells_many : (cols : List Col) (c : Col) (rows : List (List Item)) → length (cells_at cols c rows) ≡ length rows
 cells_many cols c rows = map_long (cell_or no_cell cols c) rows

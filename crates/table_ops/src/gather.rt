@@ -18,7 +18,7 @@ pub fn gather_cells(alloc: Global, cells: &[Item], places: &[u32]) -> Result<Vec
     Ok(out)
 }
 
-fn cell_at(cells: &[Item], place: u32) -> Item
+pub fn cell_at(cells: &[Item], place: u32) -> Item
     ensures { result ≡ cell_of cells.now place }
 {
     match cells.get(place as usize) {

@@ -1,5 +1,6 @@
 use Rattle.std.proofs.Common.{◌≡◌, ◌++◌, ◌∷◌, [], map, refl, sym, ap, ◌∙◌}
-use Rattle.table_ops.proofs.Chaining.{after_push, linked_once, joined_to, to_nothing}
+use Rattle.table_ops.proofs.Chaining.{after_push, linked_once}
+use Rattle.table_ops.proofs.Lists.{joined_to, to_nothing}
 use Rattle.table_ops.proofs.chains.follow.Goals as goal
 
 pub loop-at-init : goal.loop-at-init
