@@ -7,7 +7,8 @@ use Rattle.std.proofs.lemmas.List.Sums.{AllPass-from_list_all}
 use Rattle.xq_base.specs.declared.code.Code.TheVariants as code
 use Rattle.core_scope.specs.Syn.{Query, read}
 use Rattle.core_scope.specs.declared.refusal.Refusal.{Refusal}
-use Rattle.core_scope.specs.Walk.{refused, DeclaredCall, Facts}
+use Rattle.core_scope.specs.declared.found.DeclaredCall.{DeclaredCall}
+use Rattle.core_scope.specs.Walk.{refused, Facts}
 use Rattle.core_scope.specs.Prolog.{Told, of_function, of_variable, all_told, local_refusals}
 use Rattle.core_scope.specs.Refusals.{ToldFunction, function_at, Calls, Comes, straight, through, the_functions, called_by, referred_by, Recursive, Refers, itself, by_call, TooSoon, IsRefusal, IsFirst, is_before}
 

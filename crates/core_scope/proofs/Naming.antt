@@ -1,9 +1,9 @@
 -- How the visible variables change where a name is given a variable, and come back where it is given the one before.
-use Rattle.std.proofs.Common.{◌≡◌, ℕ, Bool, true, false, cond, ◌&&◌, nat_eq, Option, Some, List, [], ◌∷◌, refl, sym, ap, ◌∙◌, arith}
+use Rattle.std.proofs.Common.{◌≡◌, ℕ, Bool, true, false, cond, ◌&&◌, nat_eq, Option, Some, None, List, [], ◌∷◌, refl, sym, ap, ◌∙◌, arith}
 use Rattle.std.specs.Cmp.Lexicographic.{pointwise}
 use Rattle.xq_base.specs.Texts.{Text, text_eq}
 use Rattle.core_scope.specs.declared.names.Visible.{Visible}
-use Rattle.core_scope.specs.Names.{Scope, with_name}
+use Rattle.core_scope.specs.Names.{Scope, with_name, is_there}
 
 -- two scopes with the same variables are equal
 pub same_names : (a b : Scope) → ((x : Text) → a x ≡ b x) → a ≡ b
@@ -33,3 +33,8 @@ names_back a x v = same_names (with_name x (a x) (with_name x v a)) a (λ y. at 
     at : (y : Text) (b : Bool) → text_eq x y ≡ b → cond b (a x) (cond b v (a y)) ≡ a y
     at y true p = ap a (eq_from_text x y p)
     at y false p = refl
+
+-- something is there where a test says so
+pub there_where : {A : Type 0} (b : Bool) (a : A) → is_there (cond b (Some a) None) ≡ b
+there_where true a = refl
+there_where false a = refl

@@ -4,7 +4,8 @@ use Rattle.xq_base.specs.declared.code.Code.{Code}
 use Rattle.xq_base.specs.declared.code.Code.TheVariants as code
 use Rattle.core_scope.specs.Syn.{Query, read, resolved}
 use Rattle.core_scope.specs.declared.refusal.Refusal.{Refusal}
-use Rattle.core_scope.specs.Walk.{refused, DeclaredCall, Facts, nothing}
+use Rattle.core_scope.specs.declared.found.DeclaredCall.{DeclaredCall}
+use Rattle.core_scope.specs.Walk.{refused, Facts, nothing}
 use Rattle.core_scope.specs.Prolog.{Told, of_function, of_variable, all_told, local_refusals, resolved_query}
 
 -- the declared functions with the places of their `declare`, and what is told of each
@@ -70,20 +71,45 @@ module _ (q : Query read) where
 
 -- the order of the codes at one place (own rule)
 abbrev pub rank : Code → ℕ
-rank code.XQST0031 = 0
-rank code.FOAR0002 = 1
-rank code.XPST0008 = 2
-rank code.XPST0017 = 3
-rank code.XPST0051 = 4
-rank code.XPST0080 = 5
-rank code.XQST0034 = 6
-rank code.XQST0039 = 7
-rank code.XQST0040 = 8
-rank code.XQST0049 = 9
-rank code.XQST0068 = 10
-rank code.XQST0089 = 11
-rank code.PFRC0001 = 12
-rank _ = 13
+rank code.XPST0003 = 0
+rank code.PFRC0003 = 1
+rank code.PFRC0004 = 2
+rank code.XQST0031 = 3
+rank code.FOAR0002 = 4
+rank code.XPST0008 = 5
+rank code.XPST0017 = 6
+rank code.XPST0051 = 7
+rank code.XPST0080 = 8
+rank code.XQST0034 = 9
+rank code.XQST0039 = 10
+rank code.XQST0040 = 11
+rank code.XQST0049 = 12
+rank code.XQST0068 = 13
+rank code.XQST0089 = 14
+rank code.PFRC0001 = 15
+rank code.PFRC0002 = 16
+rank code.XPTY0004 = 17
+rank code.XPTY0018 = 18
+rank code.XPTY0019 = 19
+rank code.XPTY0020 = 20
+rank code.XPDY0002 = 21
+rank code.XPDY0050 = 22
+rank code.XQTY0024 = 23
+rank code.XQDY0025 = 24
+rank code.XQDY0026 = 25
+rank code.XQDY0041 = 26
+rank code.XQDY0064 = 27
+rank code.XQDY0072 = 28
+rank code.XQDY0074 = 29
+rank code.FOAR0001 = 30
+rank code.FORG0001 = 31
+rank code.FORG0003 = 32
+rank code.FORG0004 = 33
+rank code.FORG0005 = 34
+rank code.FORG0006 = 35
+rank code.FODC0002 = 36
+rank code.FOER0000 = 37
+rank code.SENR0001 = 38
 
 abbrev pub is_before : Refusal → Refusal → Bool
 is_before a b = nat_lt a.offset b.offset || (nat_eq a.offset b.offset && nat_lt (rank a.code) (rank b.code))
@@ -114,3 +140,7 @@ pub data Scoped : Type 0 where
 abbrev pub Scopes : Query read → Scoped → Type 0
 Scopes q (accepted r) = ((x : Refusal) → IsRefusal q x → ⊥) × (r ≡ resolved_query q)
 Scopes q (refusal r) = IsFirst q r
+
+-- scope gives a query one thing at most
+abbrev pub OneScoping : Type 0
+OneScoping = (q : Query read) (a b : Scoped) → Scopes q a → Scopes q b → a ≡ b

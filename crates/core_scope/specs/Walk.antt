@@ -14,6 +14,7 @@ use Rattle.xq_ast.specs.declared.leaf.ReadItem.{ReadItem}
 use Rattle.xq_ast.specs.declared.leaf.ReadItem.TheVariants as i
 use Rattle.core_scope.specs.declared.names.Visible.{Visible}
 use Rattle.core_scope.specs.declared.refusal.Refusal.{Refusal}
+use Rattle.core_scope.specs.declared.found.DeclaredCall.{DeclaredCall}
 use Rattle.core_scope.specs.Syn.{Syn, Syns, Maybe, Binds, Keys, BuildName, Attributes, Values, Parts, read, how_many}
 use Rattle.core_scope.specs.Syn as s
 use Rattle.core_scope.specs.TypeNames.{atom_kind, item_named, cast_code}
@@ -23,11 +24,7 @@ use Rattle.core_scope.specs.Names.{Scope, with_local, behind_for, behind_binds, 
 abbrev pub refused : Code → ℕ → Refusal
 refused c o = record { code = c; offset = o }
 
--- a call of a declared function: its place, and the function's number
-pub record DeclaredCall : Type 0 where
-  pub offset : ℕ
-  pub function : ℕ
-
+-- a call of a declared function has its place and the function's number
 pub record Facts : Type 0 where
   pub refusals : List Refusal
   pub calls : List DeclaredCall

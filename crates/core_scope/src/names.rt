@@ -1,6 +1,6 @@
 //! The visible variables, by name.
 ghost use Rattle.std.specs.Prelude.{◌≡◌, OnOk, IfOk, Some};
-ghost use Rattle.core_scope.specs.Names.{no_names, with_name};
+ghost use Rattle.core_scope.specs.Names.{is_there, no_names, with_name};
 ghost use Rattle.core_scope.specs.Held.{names_in};
 
 use std::alloc::Global;
@@ -10,8 +10,8 @@ use xq_base::Want;
 /// A visible variable: the place of the `$` that binds it, and its number, if it is one of the prolog's.
 #[derive(Clone, Copy, Debug, PartialEq, Eq)]
 pub struct Visible {
-    pub place: u32,
-    pub number: Option<u32>,
+    pub place: u64,
+    pub number: Option<u64>,
 }
 
 /// The variable that each name stands for.
@@ -35,6 +35,16 @@ impl<'a> Names<'a> {
         ensures { result ≡ names_in self.now name.now }
     {
         self.known.get(name).copied()
+    }
+
+    /// Whether a name stands for a variable. It takes no memory.
+    pub fn has(&self, name: &[u8]) -> bool
+        ensures { result ≡ is_there (names_in self.now name.now) }
+    {
+        match self.get(name) {
+            Some(_) => true,
+            None => false,
+        }
     }
 
     /// Lets a name stand for a variable, or for none.
