@@ -90,11 +90,12 @@ last_at o None = c.Fail o code.XPDY0002
 last_at o (Some f) = c.Var o f.last
 
 -- a leading slash (section 3.2)
-abbrev pub root_at : ℕ → Option Focus → PlainCore
-root_at o f =
-    c.If o (c.Instance o (dot_at o f) (once AnyNode))
+abbrev pub document_root : ℕ → Option Focus → PlainCore
+document_root o f =
     (c.Treat o (c.Call o fun.Root (one (dot_at o f))) (once IsDocumentNode))
-    (c.Fail o code.XPTY0020)
+
+abbrev pub root_at : ℕ → Option Focus → PlainCore
+root_at o f = c.If o (c.Instance o (dot_at o f) (once AnyNode)) (document_root o f) (c.Fail o code.XPTY0020)
 
 -- whether the value v of a predicate selects the item at a place (section 3.3.2)
 abbrev pub chosen : ℕ → ℕ → ℕ → PlainCore
@@ -114,12 +115,16 @@ unfoldable pub selected : ℕ → PlainCore → ℕ → ℕ → ℕ → ℕ → 
 selected o e y last dot place v p =
     c.Let o y e (with_last o y last (c.For o dot place (c.Var o y) (kept o dot place v p)))
 
+-- an expression m where an item is a node, and this for each item of a variable
+abbrev pub over_node : ℕ → ℕ → PlainCore → PlainCore
+over_node o dot m = c.If o (c.Instance o (c.Var o dot) (once AnyNode)) m (c.Fail o code.XPTY0019)
+
+abbrev pub each_ordered : ℕ → ℕ → ℕ → ℕ → PlainCore → PlainCore
+each_ordered o y dot place m = ordered o (c.For o dot place (c.Var o y) (over_node o dot m))
+
 -- an expression m for each node of e (section 3.2)
 abbrev pub for_each_node : ℕ → PlainCore → ℕ → ℕ → ℕ → ℕ → PlainCore → PlainCore
-for_each_node o e y last dot place m =
-    c.Let o y e (with_last o y last
-    (ordered o (c.For o dot place (c.Var o y)
-    (c.If o (c.Instance o (c.Var o dot) (once AnyNode)) m (c.Fail o code.XPTY0019)))))
+for_each_node o e y last dot place m = c.Let o y e (with_last o y last (each_ordered o y dot place m))
 
 -- a cast by a function of the type's name (XQuery 1.0 and XPath 2.0 Functions and Operators, section 5)
 abbrev pub cast_to : ℕ → AtomKind → Fun → PlainCores → PlainCore

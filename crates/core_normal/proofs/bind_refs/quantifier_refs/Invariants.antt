@@ -1,0 +1,8 @@
+use Rattle.std.proofs.Common.{◌≡◌, drop}
+use Rattle.core_meaning.specs.Erasure.{Texts}
+use Rattle.core_normal.specs.Binding.{binds_in}
+use Rattle.core_normal.specs.Trees as trees
+use Rattle.core_normal.proofs.bind_refs.quantifier_refs.Given as goal
+
+abbrev pub invariant-loop-bind : goal.invariant-loop-bind
+invariant-loop-bind l = (t : Texts) → binds_in t l.out.items (trees.quant_binds t (drop l.bind-index l.binds)) ≡ trees.quant_binds t l.binds

@@ -1,0 +1,9 @@
+use Rattle.std.proofs.lemmas.Result.{IfOk-weaker}
+use Rattle.core_normal.proofs.StepsMade.{next_walk, next_primary}
+use Rattle.core_normal.proofs.maker.Maker.next_step.Goals as goal
+
+pub returns-in-Walk : goal.returns-in-Walk
+returns-in-Walk g c = IfOk-weaker c.walk_on.result _ _ (λ core i. next_walk _ _ _ _ _ _ core c.in-Walk.is c.as_slice-conditions.ensures i) c.walk_on.ensures
+
+pub returns-in-Primary : goal.returns-in-Primary
+returns-in-Primary g c = IfOk-weaker c.through.result _ _ (λ core i. next_primary _ _ _ _ _ _ core c.in-Primary.is c.get-primary.ensures c.as_slice-conditions.ensures i) c.through.ensures
