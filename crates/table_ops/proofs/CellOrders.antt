@@ -18,9 +18,10 @@ use Rattle.xq_base.specs.Texts.{Text}
 use Rattle.doc_table.specs.Tree.{text_in}
 use Rattle.doc_table.specs.DerivedOrder.{ref_cmp}
 use Rattle.doc_table.proofs.StringValues.{text-found}
+use Rattle.xq_funs.specs.Answering.{text_given}
 use Rattle.plan_dag.specs.declared.keys.Key.{Key}
 use Rattle.table_ops.specs.Columns.{cell_of}
-use Rattle.table_ops.specs.Held.{held_rank, text_given}
+use Rattle.table_ops.specs.Held.{held_rank}
 use Rattle.table_ops.specs.Sorting.{held_cmp, cells_cmp, places_cmp, order_cmp}
 
 pub text_is : (texts : List Text) (id : TextId) (t : Text) → slice_get texts id.0 ≡ Some t → text_in texts id ≡ t

@@ -22,7 +22,7 @@ use Rattle.table_ops.proofs.Rowing.{by_places}
 use Rattle.table_ops.proofs.Lists.{app, map_append, map_self}
 
 -- as many pass in any order
-count_moved : {X : Type 0} (p : X → Bool) (xs ys : List X) → IsPermutation xs ys → length (filter p ys) ≡ length (filter p xs)
+pub count_moved : {X : Type 0} (p : X → Bool) (xs ys : List X) → IsPermutation xs ys → length (filter p ys) ≡ length (filter p xs)
 count_moved p xs ys h = length-filter p ys ∙ sum_by-IsPermutation (λ x. cond (p x) 1 0) xs ys h ∙ sym (length-filter p xs)
 
 pub count_alike : {X : Type 0} (p q : X → Bool) (xs : List X) → ((x : X) → p x ≡ q x) → length (filter p xs) ≡ length (filter q xs)
@@ -100,11 +100,11 @@ module _ (part keys : ℕ → ℕ → Ordering) (pt : IsTotalOrder part) (kt : I
   total : IsTotalOrder (order_cmp part keys)
   total = order_total part keys pt kt
 
-  abbrev Leads : ℕ → List ℕ → Type 0
+  abbrev pub Leads : ℕ → List ℕ → Type 0
   Leads x [] = Unit {0}
   Leads x (y ∷ ys) = (cmp x y ≡ Less) × Leads x ys
 
-  abbrev InOrder : List ℕ → Type 0
+  abbrev pub InOrder : List ℕ → Type 0
   InOrder [] = Unit {0}
   InOrder (x ∷ xs) = Leads x xs × InOrder xs
 

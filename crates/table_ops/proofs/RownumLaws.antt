@@ -13,6 +13,7 @@ use Rattle.xq_base.specs.declared.item.Item.TheVariants as i
 use Rattle.xq_base.specs.Texts.{Text, text_less}
 use Rattle.doc_table.specs.Tree.{text_in}
 use Rattle.doc_table.proofs.DerivedOrder.{derived_order}
+use Rattle.xq_funs.specs.Answering.{text_given}
 use Rattle.plan_dag.specs.declared.cols.Col.{Col}
 use Rattle.plan_dag.specs.declared.keys.Key.{Key}
 use Rattle.plan_dag.specs.Padded.{col_eq}
@@ -20,7 +21,7 @@ use Rattle.plan_dag.specs.Meaning.{Table, cell_or, sort_keys}
 use Rattle.plan_dag.specs.Rows.{numbered, rownum_rows, keys_less, key_less, ties, num}
 use Rattle.table_ops.specs.Chains.{AllBelow}
 use Rattle.table_ops.specs.Columns.{numbers_from, cell_of, no_cell, cells_at, rows_beside, single_rows}
-use Rattle.table_ops.specs.Held.{held_less, held_rules, kept, text_given}
+use Rattle.table_ops.specs.Held.{held_less, held_rules, kept}
 use Rattle.table_ops.specs.Sorting.{held_cmp, cells_cmp, places_cmp, order_cmp, number_at, cell_numbers, key_columns, columns_given, part_keys, tied_part, run_from, AtMostOnce}
 use Rattle.table_ops.proofs.CellOrders.{held_total, places_total}
 use Rattle.table_ops.proofs.OrderCounts.{count_alike, numbers_long, numbers_are, scattered, moved_once, moved_within, moved_long}
@@ -102,7 +103,7 @@ module _ (texts : List Text) where
     either Equal p = refl
     either Greater p = refl
 
-    keys_are : (ks : List Key) (q r : List Item) → keys_less (held_rules texts) (sort_keys (held_rules texts) cols ks) q r ≡ is_lt (rows_cmp ks q r)
+    pub keys_are : (ks : List Key) (q r : List Item) → keys_less (held_rules texts) (sort_keys (held_rules texts) cols ks) q r ≡ is_lt (rows_cmp ks q r)
     keys_are [] q r = refl
     keys_are (k ∷ ks) q r =
         let v : Item = cell_or no_cell cols k.col q in
@@ -147,12 +148,12 @@ module _ (texts : List Text) where
     no_row [] c = refl
     no_row (k ∷ ks) c = refl
 
-    cell_there : (c : Col) (rows : List (List Item)) (a : ℕ) → cell_of (cells_at cols c rows) a ≡ cell_or no_cell cols c (slice_index_or rows a [])
+    pub cell_there : (c : Col) (rows : List (List Item)) (a : ℕ) → cell_of (cells_at cols c rows) a ≡ cell_or no_cell cols c (slice_index_or rows a [])
     cell_there c [] a = no_row cols c
     cell_there c (r ∷ rows) zero = refl
     cell_there c (r ∷ rows) (suc a) = cell_there c rows a
 
-    places_are : (rows : List (List Item)) (ks : List Key) (a b : ℕ) → places_cmp texts (key_columns cols ks rows) ks a b ≡ rows_cmp ks (slice_index_or rows a []) (slice_index_or rows b [])
+    pub places_are : (rows : List (List Item)) (ks : List Key) (a b : ℕ) → places_cmp texts (key_columns cols ks rows) ks a b ≡ rows_cmp ks (slice_index_or rows a []) (slice_index_or rows b [])
     places_are rows [] a b = refl
     places_are rows (k ∷ ks) a b = λ j. ordering_then (cells_cmp texts k.descending (cell_there k.col rows a j) (cell_there k.col rows b j)) (places_are rows ks a b j)
 
@@ -337,27 +338,27 @@ module _ (texts : List Text) (t : Table Item) (c : Col) (part : Option Col) (pk 
       h
 
 -- the columns of keys have texts that the pool gave
+pub and_both : (b c : Bool) → (b && c) ≡ true → (b ≡ true) × (c ≡ true)
+and_both true true e = (refl, refl)
+and_both true false e = (refl, e)
+and_both false c e = absurd (true≢false (sym e))
+
+cell_or_given : (n : ℕ) (names : List Col) (c : Col) (r : List Item) → list_all (text_given n) r ≡ true → text_given n (cell_or no_cell names c r) ≡ true
+cell_or_given n [] c r h = refl
+cell_or_given n (m ∷ names) c [] h = refl
+cell_or_given n (m ∷ names) c (v ∷ r) h = let q = and_both (text_given n v) (list_all (text_given n) r) h in by (col_eq m c) q.0 (cell_or_given n names c r q.1)
+  where
+    by : (b : Bool) → text_given n v ≡ true → text_given n (cell_or no_cell names c r) ≡ true → text_given n (cond b v (cell_or no_cell names c r)) ≡ true
+    by true e f = e
+    by false e f = f
+
+pub column_given : (n : ℕ) (cols : List Col) (c : Col) (rows : List (List Item)) → columns_given n rows ≡ true → list_all (text_given n) (cells_at cols c rows) ≡ true
+column_given n cols c [] h = refl
+column_given n cols c (r ∷ rows) h = let q = and_both (list_all (text_given n) r) (columns_given n rows) h in λ j. cell_or_given n cols c r q.0 j && column_given n cols c rows q.1 j
+
 pub key_cells_given : (n : ℕ) (cols : List Col) (ks : List Key) (rows : List (List Item)) → columns_given n rows ≡ true → columns_given n (key_columns cols ks rows) ≡ true
 key_cells_given n cols [] rows h = refl
-key_cells_given n cols (k ∷ ks) rows h = λ j. (column rows h ∙ refl) j && key_cells_given n cols ks rows h j
-  where
-    both : (b c : Bool) → (b && c) ≡ true → (b ≡ true) × (c ≡ true)
-    both true true e = (refl, refl)
-    both true false e = (refl, e)
-    both false c e = absurd (true≢false (sym e))
-
-    cell : (names : List Col) (r : List Item) → list_all (text_given n) r ≡ true → text_given n (cell_or no_cell names k.col r) ≡ true
-    cell [] r h = refl
-    cell (m ∷ names) [] h = refl
-    cell (m ∷ names) (v ∷ r) h = let q = both (text_given n v) (list_all (text_given n) r) h in by (col_eq m k.col) q.0 (cell names r q.1)
-      where
-        by : (b : Bool) → text_given n v ≡ true → text_given n (cell_or no_cell names k.col r) ≡ true → text_given n (cond b v (cell_or no_cell names k.col r)) ≡ true
-        by true e f = e
-        by false e f = f
-
-    column : (rows : List (List Item)) → columns_given n rows ≡ true → list_all (text_given n) (cells_at cols k.col rows) ≡ true
-    column [] h = refl
-    column (r ∷ rows) h = let q = both (list_all (text_given n) r) (columns_given n rows) h in λ j. cell cols r q.0 j && column rows q.1 j
+key_cells_given n cols (k ∷ ks) rows h = λ j. column_given n cols k.col rows h j && key_cells_given n cols ks rows h j
 
 run_long : (same : ℕ → ℕ → Bool) (p n : ℕ) (xs : List ℕ) → length (run_from same p n xs) ≡ length xs
 run_long same p n [] = refl

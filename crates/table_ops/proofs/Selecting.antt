@@ -27,6 +27,26 @@ module _ {C X : Type 0} (test : X → Bool) (g : List C → X) where
       by true e = λ i. at_end done r rows [] i ∷ e i
       by false e = e
 
+-- the values at places that a test picks
+module _ {X Y Z : Type 0} (test : Y → Bool) (g : X → Y) (v : X → Z) (d : Z) where
+  pub picked_values : (done xs : List X) → map (λ p. slice_index_or (map v (done ++ xs)) p d) (places_of test (length done) (map g xs)) ≡ map v (filter (λ x. test (g x)) xs)
+  picked_values done [] = refl
+  picked_values done (x ∷ xs) =
+      by (test (g x))
+      (ap (λ n. map (λ p. slice_index_or (map v (done ++ x ∷ xs)) p d) (places_of test n (map g xs))) (sym (longer done x))
+      ∙ ap (λ z. map (λ p. slice_index_or (map v z) p d) (places_of test (length (done ++ x ∷ [])) (map g xs))) (sym (app done x xs))
+      ∙ picked_values (done ++ x ∷ []) xs)
+    where
+      here : (done : List X) → slice_index_or (map v (done ++ x ∷ xs)) (length done) d ≡ v x
+      here [] = refl
+      here (y ∷ done) = here done
+
+      by : (b : Bool) → map (λ p. slice_index_or (map v (done ++ x ∷ xs)) p d) (places_of test (suc (length done)) (map g xs)) ≡ map v (filter (λ x. test (g x)) xs)
+          → map (λ p. slice_index_or (map v (done ++ x ∷ xs)) p d) (cond b (length done ∷ places_of test (suc (length done)) (map g xs)) (places_of test (suc (length done)) (map g xs)))
+          ≡ map v (cond b (x ∷ filter (λ x. test (g x)) xs) (filter (λ x. test (g x)) xs))
+      by true e = λ i. here done i ∷ e i
+      by false e = e
+
 pub within_from : {X : Type 0} (test : X → Bool) (i n : ℕ) (xs : List X) → i + length xs ≤ n → AllWithin n (places_of test i xs)
 within_from test i n [] h = tt
 within_from test i n (x ∷ xs) h = by (test x) (within_from test (suc i) n xs (omega (arith, h)))

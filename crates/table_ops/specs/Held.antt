@@ -1,6 +1,6 @@
 -- What tables need of the cells that are kept: items whose texts are numbers of a pool and whose nodes
 -- are references (own rule). What makes texts or nodes isn't said over these cells.
-use Rattle.std.specs.Prelude.{ℕ, ℤ, Bool, true, false, not, ◌&&◌, ◌||◌, List, [], Option, Some, None, nat_lt, int_lt}
+use Rattle.std.specs.Prelude.{ℕ, ℤ, Bool, false, not, ◌&&◌, ◌||◌, List, [], Option, Some, None, nat_lt, int_lt}
 use Rattle.xq_base.specs.declared.item.Item.{Item}
 use Rattle.xq_base.specs.declared.item.Item.TheVariants as i
 use Rattle.xq_base.specs.declared.item.Atom.{Atom as Constant}
@@ -9,7 +9,6 @@ use Rattle.xq_base.specs.Texts.{Text, text_less}
 use Rattle.xq_base.specs.Atoms.{Atom, IntAtom, TextAtom, UntypedAtom, BoolAtom}
 use Rattle.doc_table.specs.Tree.{text_in}
 use Rattle.doc_table.specs.Identity.{ref_less}
-use Rattle.doc_table.specs.Given.{is_given}
 use Rattle.plan_dag.specs.Cells.{Rules, Silent}
 use Rattle.plan_dag.specs.ItemRules.{atoms_outcome}
 use Rattle.table_ops.specs.Keys.{item_eq}
@@ -22,14 +21,6 @@ held_rank (i.Int z) = 1
 held_rank (i.Str id) = 2
 held_rank (i.Untyped id) = 3
 held_rank (i.Node n) = 4
-
--- a pool of so many texts gave the cell's text
-abbrev pub text_given : ℕ → Item → Bool
-text_given n (i.Bool b) = true
-text_given n (i.Int z) = true
-text_given n (i.Str id) = is_given n id
-text_given n (i.Untyped id) = is_given n id
-text_given n (i.Node r) = true
 
 -- of cells of one kind, with these texts
 abbrev pub held_value_less : List Text → Item → Item → Bool

@@ -10,12 +10,13 @@ use Rattle.xq_base.specs.declared.item.Item.TheVariants as i
 use Rattle.xq_base.specs.Texts.{Text}
 use Rattle.doc_table.specs.Tree.{text_in}
 use Rattle.doc_table.specs.DerivedOrder.{ref_cmp}
+use Rattle.xq_funs.specs.Answering.{text_given}
 use Rattle.plan_dag.specs.declared.cols.Col.{Col}
 use Rattle.plan_dag.specs.declared.keys.Key.{Key}
 use Rattle.plan_dag.specs.Meaning.{cell_or}
 use Rattle.plan_dag.specs.Rows.{num}
 use Rattle.table_ops.specs.Columns.{no_cell, cell_of, cells_at, numbers_from}
-use Rattle.table_ops.specs.Held.{held_rank, kept, text_given}
+use Rattle.table_ops.specs.Held.{held_rank, kept}
 
 -- cells of one kind, with these texts
 abbrev pub value_cmp : List Text → Item → Item → Ordering

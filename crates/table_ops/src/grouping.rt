@@ -1,10 +1,12 @@
 //! The operators that find equal rows of one table: `distinct` and `count`.
 ghost use Rattle.std.specs.Prelude.{◌≡◌, ◌<◌, ◌≤◌, ◌+◌, ◌^◌, ◌∷◌, [], length, map, true, replicate, IfOk};
+ghost use Rattle.indexmap.specs.IndexSet.{insert_all};
 ghost use Rattle.plan_dag.specs.Schema.{has_col, has_cols};
 ghost use Rattle.plan_dag.specs.Meaning.{cell, cells};
 ghost use Rattle.plan_dag.specs.Rows.{first_rows, count_rows, num};
 ghost use Rattle.table_ops.specs.Chains.{AllBelow};
 ghost use Rattle.table_ops.specs.Held.{kept};
+ghost use Rattle.table_ops.specs.Keys.{item_eq};
 ghost use Rattle.table_ops.specs.Groups.{paired, counts_of, refined, keys_by};
 
 use crate::keys::{firsts, number};
@@ -128,6 +130,16 @@ pub fn integers(alloc: Global, numbers: &[u32]) -> Result<Vec<Item>, Want>
         }
     }
     Ok(out)
+}
+
+/// The different ones among cells, by their first places.
+pub fn different(alloc: Global, hash: HashKeys, cells: &[Item]) -> Result<Vec<Item>, Want>
+    requires { length cells.now < 2 ^ 32 }
+    ensures { IfOk result (λ out. out.items ≡ insert_all item_eq [] cells.now) }
+{
+    let mut table = IndexSet::with_hasher(alloc, hash);
+    let _keys = number(alloc, cells, &mut table)?;
+    values_in(alloc, &table)
 }
 
 /// The values of a table of different ones, in their order.

@@ -18,7 +18,7 @@ use std::cmp::Ordering;
 use xq_base::{Item, Pool, Want};
 
 /// Each row with its number: one more than the number of rows of its part that stand before it by the
-/// keys, then by place. Where there is no part, all rows are one.
+/// keys, then by place. Where there is no part, all rows are one (own rule).
 ///
 /// Errors: `Want`, where memory is wanting.
 pub fn rownum(

@@ -12,7 +12,8 @@ use plan_dag::Col;
 use std::alloc::Global;
 use xq_base::{Item, Want};
 
-/// Each row, once for each integer from its cell in one column to its cell in another, with this integer.
+/// Each row, once for each integer from its cell in one column to its cell in another, with this integer
+/// (own rule).
 ///
 /// Errors: `Want`, where memory is wanting.
 pub fn range(alloc: Global, input: &Table, low: Col, high: Col, col: Col) -> Result<Table, Want>

@@ -6,9 +6,10 @@ ghost use Rattle.std.specs.Ordering.{nat_cmp};
 ghost use Rattle.std.specs.Cmp.Lexicographic.{slice_cmp};
 ghost use Rattle.doc_table.specs.Tree.{text_in};
 ghost use Rattle.doc_table.specs.Given.{is_given};
+ghost use Rattle.xq_funs.specs.Answering.{text_given};
 ghost use Rattle.plan_dag.specs.Schema.{has_cols};
 ghost use Rattle.table_ops.specs.Columns.{cells_at, cell_of, numbers_from};
-ghost use Rattle.table_ops.specs.Held.{held_rank, text_given};
+ghost use Rattle.table_ops.specs.Held.{held_rank};
 ghost use Rattle.table_ops.specs.Sorting.{value_cmp, held_cmp, cells_cmp, places_cmp, order_cmp, columns_given};
 
 use crate::gather::cell_at;
