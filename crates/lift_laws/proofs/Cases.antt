@@ -2,7 +2,7 @@
 use Rattle.std.proofs.Common.{◌≡◌, false, refl, ap, is_none}
 use Rattle.doc_table.specs.Values.{item_of_atom}
 use Rattle.core_meaning.specs.Meaning.{val}
-use Rattle.lift_laws.specs.Laws.{ValuesWhereNothingFails, LiteralLifts, NothingLifts, VariableLifts, SequenceLifts, BindingLifts, LoopLifts, ChoiceLifts, NoPartsLift, PartsLift, CallsLift, FailuresAreReached, CostIsWork, ChecksAnswer, DemandsAreSmall, OperatorMakes, CheckAdds, RulesAreFair, FailuresLift, ConstantsLift, ExistsLifts, EmptyLifts, ZeroOrOneLifts, OneOrMoreLifts, ExactlyOneLifts, DataLifts, CountLifts, ItemRulesLift, CastableLifts, TextRulesLift, NoneCarried, OneMoreCarried, LoopCarries, BranchCarries, TreesAreKnown}
+use Rattle.lift_laws.specs.Laws.{ValuesWhereNothingFails, LiteralLifts, NothingLifts, VariableLifts, SequenceLifts, BindingLifts, LoopLifts, ChoiceLifts, NoPartsLift, PartsLift, CallsLift, FailuresAreReached, CostIsWork, ChecksAnswer, DemandsAreSmall, OperatorMakes, CheckAdds, RulesAreFair, FailuresLift, ConstantsLift, ExistsLifts, EmptyLifts, ZeroOrOneLifts, OneOrMoreLifts, ExactlyOneLifts, DataLifts, CountLifts, ItemRulesLift, CastableLifts, TextRulesLift, BooleansLift, PairRulesLift, TextPairsLift, ConnectivesLift, GeneralsLift, StepsLift, UnionsLift, PathsLift, NoneCarried, OneMoreCarried, LoopCarries, BranchCarries, TreesAreKnown}
 use Rattle.lift_laws.proofs.Picks.{all_mono}
 use Rattle.lift_laws.proofs.Values.{ValueAt, no_faults}
 use Rattle.lift_laws.proofs.PlainCases.{atom_plain, lit_lifts, empty_lifts, var_lifts, seq_lifts, let_lifts}
@@ -18,6 +18,12 @@ use Rattle.lift_laws.proofs.CountCase.{count_call}
 use Rattle.lift_laws.proofs.ItemCase.{item_rule_call}
 use Rattle.lift_laws.proofs.CastableCase.{castable_call}
 use Rattle.lift_laws.proofs.TextCase.{text_rule_call}
+use Rattle.lift_laws.proofs.TruthCase.{boolean_call}
+use Rattle.lift_laws.proofs.PairFunctions.{pair_rule_call, text_pair_call}
+use Rattle.lift_laws.proofs.ConnectiveCase.{or_call, and_call}
+use Rattle.lift_laws.proofs.GeneralCase.{general_call}
+use Rattle.lift_laws.proofs.WalkCase.{walk_call}
+use Rattle.lift_laws.proofs.NodeSets.{union_call, path_call}
 use Rattle.lift_laws.proofs.FunctionCases.{failure_call, true_call, false_call, exists_call, empty_call, zero_or_one_call, one_or_more_call, exactly_one_call}
 use Rattle.lift_laws.proofs.Reaching.{cost_is_work, faults_are_fails}
 use Rattle.lift_laws.proofs.FirstFailure.{verdict, demands}
@@ -128,3 +134,27 @@ castable_lifts docs s s' site kind optional looped a t m = castable_call docs si
 
 pub text_rules_lift : TextRulesLift
 text_rules_lift docs s s1 s2 site q looped a t cs m st = text_rule_call docs s s1 s2 site q looped a t cs m st
+
+pub pair_rules_lift : PairRulesLift
+pair_rules_lift docs s s1 s2 site q looped a b t cs m st = pair_rule_call docs s s1 s2 site looped a b t cs q m st
+
+pub booleans_lift : BooleansLift
+booleans_lift docs s s1 s2 site there looped a t cs m st = boolean_call docs s s1 s2 site there looped a t cs m st
+
+pub generals_lift : GeneralsLift
+generals_lift docs s s1 s2 site op looped a b t cs m st = general_call docs s s1 s2 site op looped a b t cs m st
+
+pub connectives_lift : ConnectivesLift
+connectives_lift docs s s' site looped a b t = ((λ m. or_call docs s s' site looped a b t m), (λ m. and_call docs s s' site looped a b t m))
+
+pub text_pairs_lift : TextPairsLift
+text_pairs_lift docs s s1 s2 site q looped a b t cs m st = text_pair_call docs s s1 s2 site looped a b t cs q m st
+
+pub steps_lift : StepsLift
+steps_lift docs s s1 s2 s3 s4 site texts from axis wanted looped a k w t m h x o = walk_call docs s s1 s2 s3 s4 site texts from axis wanted looped a k w t m h x o
+
+pub unions_lift : UnionsLift
+unions_lift docs s s1 s2 site looped a b t cs m st = union_call docs s s1 s2 site looped a b t cs m st
+
+pub paths_lift : PathsLift
+paths_lift docs s s1 s2 site looped a t cs m st = path_call docs s s1 s2 site looped a t cs m st

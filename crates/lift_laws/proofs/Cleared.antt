@@ -3,15 +3,11 @@ use Rattle.std.proofs.Common.{◌≡◌, Bool, true, false, cond, not, ◌&&◌,
 use Rattle.std.specs.List.{filter}
 use Rattle.lift_laws.specs.Sums.{Same}
 use Rattle.lift_laws.specs.Iterations.{Row, Iter, num, loop_rows}
-use Rattle.lift_laws.specs.Shapes.{less}
+use Rattle.lift_laws.specs.Shapes.{cleared}
 use Rattle.lift_laws.proofs.Multi.{same-of, same-trans}
 use Rattle.lift_laws.proofs.Simple.{is_there}
 use Rattle.lift_laws.proofs.ChoiceCase.{keep_hold}
 use Rattle.lift_laws.proofs.Marks.{Marks, unmarked_stands}
-
-abbrev pub cleared : List Row → List (List Row) → List Row
-cleared l [] = l
-cleared l (b ∷ bs) = cleared (less l b) bs
 
 abbrev pub none_of : List (Iter → Bool) → Iter → Bool
 none_of [] i = true

@@ -1,11 +1,8 @@
 -- Calls of `count`, from the rows of their operators: the counted iterations beside the loop, and 0 in the others.
-use Rattle.std.proofs.Common.{◌≡◌, ℕ, ◌+◌, ◌≤◌, Bool, true, false, cond, not, ◌&&◌, ◌||◌, List, [], ◌∷◌, ◌++◌, length, map, refl, sym, ap, ◌∙◌, arith, add-zero, zero-add, pos, negsuc, Some, None, nat_eq}
-use Rattle.std.specs.List.{filter, flat_map, list_any}
-use Rattle.std.proofs.lemmas.Bool.{eqb-true}
+use Rattle.std.proofs.Common.{◌≡◌, ℕ, ◌+◌, ◌≤◌, Bool, true, false, cond, not, List, [], ◌∷◌, ◌++◌, length, map, refl, sym, ap, ◌∙◌, arith, add-zero, Some, None, nat_eq}
+use Rattle.std.specs.List.{filter, flat_map}
 use Rattle.xq_base.specs.declared.fun.Fun.TheVariants as f
-use Rattle.doc_table.specs.Items.{IntItem, TextItem, UntypedItem, BoolItem, NodeItem}
 use Rattle.doc_table.specs.NodeRules.{Docs}
-use Rattle.plan_dag.specs.Orders.{has, firsts}
 use Rattle.plan_dag.specs.declared.op.OpId.{OpId}
 use Rattle.plan_dag.specs.ItemRules.{Cell, cell_eq}
 use Rattle.plan_dag.specs.Rows.{group_rows, rows_with}
@@ -27,67 +24,8 @@ use Rattle.lift_laws.proofs.Sizes.{size_loop, size_cells, total_most}
 use Rattle.lift_laws.proofs.Simple.{is_there, literal_stands, either_stands}
 use Rattle.lift_laws.proofs.Marks.{some, unmarked_stands, fault_in}
 use Rattle.lift_laws.proofs.Operands.{marks_any}
+use Rattle.lift_laws.proofs.Firsts.{key, named, named_there, one_first, and_true}
 use Rattle.lift_laws.proofs.FunctionCases.{quiet_call, some_items}
-
-abbrev key : Row → Cell
-key r = cell bare three (column 0) r
-
-abbrev keys_same : Row → Row → Bool
-keys_same q r = cell_eq (key q) (key r)
-
-abbrev named : ℕ → List Row → Bool
-named n rs = list_any (λ r. cell_eq (num n) (key r)) rs
-
--- a cell that equals a number is it
-num_is : (n : ℕ) (v : Cell) → cell_eq (num n) v ≡ true → v ≡ num n
-num_is n (IntItem (pos m)) e = ap num (sym (eqb-true n m (sym (num_same n m) ∙ e)))
-num_is n (IntItem (negsuc m)) e = cc
-num_is n (TextItem t) e = cc
-num_is n (UntypedItem t) e = cc
-num_is n (BoolItem b) e = cc
-num_is n (NodeItem m) e = cc
-
-has_named : (n : ℕ) (x : Row) (seen : List Row) → key x ≡ num n → has keys_same x seen ≡ named n seen
-has_named n x [] e = refl
-has_named n x (r ∷ rs) e = ap (λ v. cell_eq v (key r) || has keys_same x rs) e ∙ ap (λ b. cell_eq (num n) (key r) || b) (has_named n x rs e)
-
--- a sum over first occurrences sees each number once
-one_first : (n : ℕ) (h : Cell → ℕ) (seen rs : List Row) → total (λ r. cond (cell_eq (num n) (key r)) (h (key r)) 0) (firsts keys_same seen rs) ≡ cond (named n rs && not (named n seen)) (h (num n)) 0
-one_first n h seen [] = refl
-one_first n h seen (x ∷ rs) = go (cell_eq (num n) (key x)) refl (has keys_same x seen) refl (one_first n h seen rs) (one_first n h (x ∷ seen) rs)
-  where
-    none : (b : Bool) → (b && not true) ≡ false
-    none true = refl
-    none false = refl
-
-    go : (b : Bool) → cell_eq (num n) (key x) ≡ b → (d : Bool) → has keys_same x seen ≡ d
-        → total (λ r. cond (cell_eq (num n) (key r)) (h (key r)) 0) (firsts keys_same seen rs) ≡ cond (named n rs && not (named n seen)) (h (num n)) 0
-        → total (λ r. cond (cell_eq (num n) (key r)) (h (key r)) 0) (firsts keys_same (x ∷ seen) rs) ≡ cond (named n rs && not (cell_eq (num n) (key x) || named n seen)) (h (num n)) 0
-        → total (λ r. cond (cell_eq (num n) (key r)) (h (key r)) 0) (cond d (firsts keys_same seen rs) (x ∷ firsts keys_same (x ∷ seen) rs)) ≡ cond ((cell_eq (num n) (key x) || named n rs) && not (named n seen)) (h (num n)) 0
-    go true e true d r q =
-        let s : named n seen ≡ true = sym (has_named n x seen (num_is n (key x) e)) ∙ d in
-        r ∙ ap (λ b. cond (named n rs && not b) (h (num n)) 0) s ∙ ap (λ b. cond b (h (num n)) 0) (none (named n rs))
-        ∙ sym (ap (λ b. cond ((cell_eq (num n) (key x) || named n rs) && not b) (h (num n)) 0) s ∙ ap (λ b. cond b (h (num n)) 0) (none (cell_eq (num n) (key x) || named n rs)))
-    go true e false d r q =
-        let s : named n seen ≡ false = sym (has_named n x seen (num_is n (key x) e)) ∙ d in
-        let z : total (λ r. cond (cell_eq (num n) (key r)) (h (key r)) 0) (firsts keys_same (x ∷ seen) rs) ≡ 0 =
-        q ∙ ap (λ b. cond (named n rs && not (b || named n seen)) (h (num n)) 0) e ∙ ap (λ b. cond b (h (num n)) 0) (none (named n rs)) in
-        ap (λ b. cond b (h (key x)) 0 + total (λ r. cond (cell_eq (num n) (key r)) (h (key r)) 0) (firsts keys_same (x ∷ seen) rs)) e
-        ∙ ap (λ t. h (key x) + t) z ∙ add-zero (h (key x)) ∙ ap h (num_is n (key x) e)
-        ∙ sym (ap (λ b. cond ((b || named n rs) && not (named n seen)) (h (num n)) 0) e ∙ ap (λ b. cond (true && not b) (h (num n)) 0) s)
-    go false e true d r q = r ∙ sym (ap (λ b. cond ((b || named n rs) && not (named n seen)) (h (num n)) 0) e)
-    go false e false d r q =
-        ap (λ b. cond b (h (key x)) 0 + total (λ r. cond (cell_eq (num n) (key r)) (h (key r)) 0) (firsts keys_same (x ∷ seen) rs)) e ∙ zero-add _ ∙ q
-        ∙ ap (λ b. cond (named n rs && not (b || named n seen)) (h (num n)) 0) e
-        ∙ sym (ap (λ b. cond ((b || named n rs) && not (named n seen)) (h (num n)) 0) e)
-
-and_true : (b : Bool) → (b && not false) ≡ b
-and_true true = refl
-and_true false = refl
-
-named_there : (n : ℕ) (rs : List Row) → named n rs ≡ is_there (num n) (any_rows rs)
-named_there n [] = refl
-named_there n (r ∷ rs) = ap (λ b. cell_eq (num n) (key r) || b) (named_there n rs)
 
 items_named : (n m k : ℕ) (vs : List Cell) → total (λ r. bit (cell_eq (num n) (key r))) (item_rows m k vs) ≡ cond (nat_eq n m) (length vs) 0
 items_named n m k [] = elim (nat_eq n m) as (λ b. 0 ≡ cond {A = ℕ} b 0 0) [ true ↦ refl | false ↦ refl ]

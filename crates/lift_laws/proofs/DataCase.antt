@@ -23,7 +23,7 @@ use Rattle.lift_laws.proofs.Sizes.{size_cells, total_most}
 use Rattle.lift_laws.proofs.Marks.{fault_in}
 use Rattle.lift_laws.proofs.FunctionCases.{quiet_call}
 
-abbrev as_atom : Cell → Cell
+abbrev pub as_atom : Cell → Cell
 as_atom v = item_of_atom (atomized v)
 
 abbrev with_atom : Row → List Row
@@ -36,7 +36,7 @@ atoms_of : (n k : ℕ) (vs : List Cell) → map out (flat_map with_atom (item_ro
 atoms_of n k [] = refl
 atoms_of n k (v ∷ vs) = ap (λ l. (num n ∷ num k ∷ as_atom v ∷ []) ∷ l) (atoms_of n (k + 1) vs)
 
-data_stands : (g : Iter → List Cell) (its : List Iter) (a : List Row) → Same a (value_rows g its) → Same (data_rows a) (value_rows (λ i. map as_atom (g i)) its)
+pub data_stands : (g : Iter → List Cell) (its : List Iter) (a : List Row) → Same a (value_rows g its) → Same (data_rows a) (value_rows (λ i. map as_atom (g i)) its)
 data_stands g its a s =
     same-trans (same-map out (same-flat with_atom s))
     (same-of (ap (map out) (flat-flat with_atom (λ i. item_rows i.number 1 (g i)) its)

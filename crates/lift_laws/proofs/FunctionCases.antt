@@ -40,7 +40,7 @@ use Rattle.lift_laws.proofs.Cleared.{AllMark}
 use Rattle.lift_laws.proofs.Staged.{first_code, Staged, op_sizes, staged_call}
 
 -- the loop of some iterations names them
-marks_loop : (q : Iter → Bool) (its : List Iter) (b : List Row) → Ascends (λ i. i.number) 0 its → Same b (loop_rows (filter q its)) → Marks b q its
+pub marks_loop : (q : Iter → Bool) (its : List Iter) (b : List Row) → Ascends (λ i. i.number) 0 its → Same b (loop_rows (filter q its)) → Marks b q its
 marks_loop q its b asc s =
     marks_is (all_each _ (λ i. some_if (q i) (num i.number ∷ [])) its)
     (marks_rows (λ i. cond (q i) ((num i.number ∷ []) ∷ []) []) its b asc (λ i. keyed (q i) i) (same-trans s (same-of (apart its))))
@@ -58,7 +58,7 @@ marks_loop q its b asc s =
     apart (j ∷ js) = elim (q j) as (λ d. loop_rows (cond d (j ∷ filter q js) (filter q js)) ≡ cond d ((num j.number ∷ []) ∷ []) [] ++ flat_map (λ i. cond (q i) ((num i.number ∷ []) ∷ []) []) js) [ true ↦ ap (λ l. (num j.number ∷ []) ∷ l) (apart js) | false ↦ apart js ]
 
 -- a boolean for each iteration
-truth_stands : (there : Bool) (p : Iter → Bool) (its : List Iter) (l b : List Row) → Ascends (λ i. i.number) 0 its → Same l (loop_rows its) → Marks b p its → Same (truth_rows there l b) (value_rows (λ i. BoolItem (cond (p i) there (not there)) ∷ []) its)
+pub truth_stands : (there : Bool) (p : Iter → Bool) (its : List Iter) (l b : List Row) → Ascends (λ i. i.number) 0 its → Same l (loop_rows its) → Marks b p its → Same (truth_rows there l b) (value_rows (λ i. BoolItem (cond (p i) there (not there)) ∷ []) its)
 truth_stands there p its l b asc sl m =
     same-trans
     (either_stands p (λ i. BoolItem there ∷ []) (λ i. BoolItem (not there) ∷ []) its _ _ (literal_stands (BoolItem there) (filter p its) _ (marked_stands p its l b asc sl m)) (literal_stands (BoolItem (not there)) (filter (λ i. not (p i)) its) _ (unmarked_stands p its l b sl m)))

@@ -17,9 +17,9 @@ use Rattle.lift_laws.specs.Sums.{total, bit, AllOf, Ascends, Same}
 use Rattle.lift_laws.specs.Iterations.{Row, Iter, num, loop_rows}
 use Rattle.lift_laws.specs.Bulk.{Fault, fault}
 use Rattle.lift_laws.specs.States.{State, at, Small, column, single}
-use Rattle.lift_laws.specs.Shapes.{bare, less, beside, other_rows}
+use Rattle.lift_laws.specs.Shapes.{bare, less, beside, other_rows, named_rows}
 use Rattle.lift_laws.specs.Lifting.{numbers_at, first_cells, HasCode, TellsOf, Tells, call_answer, call_faults}
-use Rattle.lift_laws.proofs.Numbers.{num_same, nat_eq_self}
+use Rattle.lift_laws.proofs.Numbers.{num_same, nat_eq_self, num_is}
 use Rattle.lift_laws.proofs.Multi.{same-of, same-trans, same-keep, total-ext, total-map, total-flat, total-keep}
 use Rattle.lift_laws.proofs.Picks.{Picked, picks, all_each, all_mono, all-flat, total-all}
 use Rattle.lift_laws.proofs.Values.{all_two}
@@ -44,6 +44,51 @@ pub marks_or : {a b : List Row} {p q : Iter → Bool} {its : List Iter} → Mark
 marks_or {a = a} {b = b} {p = p} {q = q} {its = its} m n = record {
   each = all_two _ _ _ (λ i (x : is_there (num i.number) a ≡ p i) (y : is_there (num i.number) b ≡ q i). there_append (num i.number) a b ∙ ap (λ d. d || is_there (num i.number) b) x ∙ ap (λ d. p i || d) y) its m.each n.each;
 }
+
+-- rows that are left name what the others don't
+there_less : (n : ℕ) (a c : List Row) → is_there (num n) (less a c) ≡ (is_there (num n) a && not (is_there (num n) c))
+there_less n [] c = refl
+there_less n (x ∷ a) c = go (cell_eq (num n) (cell bare single (column 0) x)) refl (there_less n a c)
+  where
+    here : (d : Bool) → is_there (num n) c ≡ d → cell_eq (num n) (cell bare single (column 0) x) ≡ true → is_there (num n) (less a c) ≡ (is_there (num n) a && not (is_there (num n) c)) → is_there (num n) (cond (not d) (x ∷ less a c) (less a c)) ≡ not d
+    here true e q r = r ∙ ap (λ b. is_there (num n) a && not b) e ∙ never (is_there (num n) a)
+      where
+        never : (b : Bool) → (b && false) ≡ false
+        never true = refl
+        never false = refl
+    here false e q r = ap (λ b. b || is_there (num n) (less a c)) q
+
+    apart : (d : Bool) → is_there (num n) (cond d (x ∷ less a c) (less a c)) ≡ ((d && cell_eq (num n) (cell bare single (column 0) x)) || is_there (num n) (less a c))
+    apart true = refl
+    apart false = refl
+
+    never : (d : Bool) → (d && false) ≡ false
+    never true = refl
+    never false = refl
+
+    go : (b : Bool) → cell_eq (num n) (cell bare single (column 0) x) ≡ b → is_there (num n) (less a c) ≡ (is_there (num n) a && not (is_there (num n) c))
+        → is_there (num n) (cond (not (is_there (cell bare single (column 0) x) c)) (x ∷ less a c) (less a c)) ≡ ((cell_eq (num n) (cell bare single (column 0) x) || is_there (num n) a) && not (is_there (num n) c))
+    go true e r =
+        ap (λ v. is_there (num n) (cond (not (is_there v c)) (x ∷ less a c) (less a c))) (num_is n (cell bare single (column 0) x) e)
+        ∙ here (is_there (num n) c) refl e r
+        ∙ sym (ap (λ b. (b || is_there (num n) a) && not (is_there (num n) c)) e)
+    go false e r =
+        apart (not (is_there (cell bare single (column 0) x) c))
+        ∙ ap (λ b. (not (is_there (cell bare single (column 0) x) c) && b) || is_there (num n) (less a c)) e
+        ∙ ap (λ b. b || is_there (num n) (less a c)) (never (not (is_there (cell bare single (column 0) x) c)))
+        ∙ r ∙ sym (ap (λ b. (b || is_there (num n) a) && not (is_there (num n) c)) e)
+
+-- those that both name
+pub marks_and : {a b : List Row} {p q : Iter → Bool} {its : List Iter} → Marks a p its → Marks b q its → Marks (named_rows a b) (λ i. p i && q i) its
+marks_and {a = a} {b = b} {p = p} {q = q} {its = its} m n = record {
+  each = all_two _ _ _ (λ i (x : is_there (num i.number) a ≡ p i) (y : is_there (num i.number) b ≡ q i).
+      there_less i.number a (less a b) ∙ ap (λ d. is_there (num i.number) a && not d) (there_less i.number a b) ∙ ap (λ d. d && not (d && not (is_there (num i.number) b))) x ∙ ap (λ d. p i && not (p i && not d)) y ∙ both (p i) (q i)) its m.each n.each;
+}
+  where
+    both : (b d : Bool) → (b && not (b && not d)) ≡ (b && d)
+    both true true = refl
+    both true false = refl
+    both false d = refl
 
 pub marks_same : {a b : List Row} {p : Iter → Bool} {its : List Iter} → Same a b → Marks b p its → Marks a p its
 marks_same {a = a} {b = b} {p = p} {its = its} s m = record {
@@ -141,7 +186,7 @@ module _ (f g : Row → Cell) (L R : Iter → List Row) (its : List Iter) (asc :
         ∙ sym (total-flat w (λ i. flat_map (λ l. map (λ r. l ++ r) (R i)) (L i)) its);
   }
 
-abbrev pub fault_in : Answer Items → Option Code
+abbrev pub fault_in : {A : Type 0} → Answer A → Option Code
 fault_in (Value x) = None
 fault_in (Refused d) = Some d
 

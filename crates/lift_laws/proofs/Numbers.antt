@@ -2,7 +2,7 @@
 use Rattle.std.proofs.Common.{◌≡◌, ℕ, ◌<◌, Bool, true, false, cond, ◌&&◌, ◌||◌, [], ◌∷◌, refl, sym, ap, ◌∙◌, arith}
 use Rattle.std.specs.Prelude.{nat_eq, nat_lt, pos, negsuc}
 use Rattle.std.proofs.Common.{Less, Equal, Greater, is_eq}
-use Rattle.std.proofs.lemmas.Bool.{eq-eqb, ne_eqb, eqb-false, le-ltb, ltb-true, ltb-false}
+use Rattle.std.proofs.lemmas.Bool.{eqb-true, eq-eqb, ne_eqb, eqb-false, le-ltb, ltb-true, ltb-false}
 use Rattle.xq_base.specs.Texts.{Text, text_eq, text_less}
 use Rattle.doc_table.specs.Items.{IntItem, TextItem, UntypedItem, BoolItem, NodeItem}
 use Rattle.doc_table.specs.Identity.{Node, node_eq, node_less}
@@ -37,6 +37,15 @@ num_same m n = at (nat_lt m n) refl (nat_lt n m) refl
     at true e b f = let l = ltb-true m n e in ap (λ x. is_eq (cond x Less (cond (nat_lt n m) Greater Equal))) e ∙ sym (nat_eq_below m n l)
     at false e true f = let l = ltb-true n m f in ap (λ x. is_eq (cond x Less (cond (nat_lt n m) Greater Equal))) e ∙ ap (λ x. is_eq (cond x Greater Equal)) f ∙ sym (nat_eq_above n m l)
     at false e false f = let l = ltb-false m n e in let k = ltb-false n m f in ap (λ x. is_eq (cond x Less (cond (nat_lt n m) Greater Equal))) e ∙ ap (λ x. is_eq (cond x Greater Equal)) f ∙ sym (eq-eqb m n (omega arith))
+
+-- a cell that equals a number is it
+pub num_is : (n : ℕ) (v : Cell) → cell_eq (num n) v ≡ true → v ≡ num n
+num_is n (IntItem (pos m)) e = ap num (sym (eqb-true n m (sym (num_same n m) ∙ e)))
+num_is n (IntItem (negsuc m)) e = cc
+num_is n (TextItem t) e = cc
+num_is n (UntypedItem t) e = cc
+num_is n (BoolItem b) e = cc
+num_is n (NodeItem m) e = cc
 
 text_eq_self : (t : Text) → text_eq t t ≡ true
 text_eq_self [] = refl

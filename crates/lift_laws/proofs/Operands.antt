@@ -15,18 +15,18 @@ use Rattle.plan_dag.specs.Meaning.{cells as cells_at}
 use Rattle.lift_laws.specs.Sums.{total, Ascends, Same}
 use Rattle.lift_laws.specs.Iterations.{Row, Iter, num, item_rows, value_rows}
 use Rattle.lift_laws.specs.States.{column, three}
-use Rattle.lift_laws.specs.Shapes.{bare, pair, pick, project, four, second_rows}
+use Rattle.lift_laws.specs.Shapes.{bare, pair, pick, project, four, head_rows, second_rows}
 use Rattle.lift_laws.proofs.Numbers.{num_same}
 use Rattle.lift_laws.proofs.Multi.{same-of, same-trans, same-keep, same-map, total-ext, total-map, total-flat, total-keep}
-use Rattle.lift_laws.proofs.Picks.{all_each, all-map, map-flat}
+use Rattle.lift_laws.proofs.Picks.{all_each, all-map, flat-all, map-flat}
 use Rattle.lift_laws.proofs.Loops.{rows_key}
 use Rattle.lift_laws.proofs.Keeping.{filter_append}
 use Rattle.lift_laws.proofs.ChoiceCase.{keep_hold}
-use Rattle.lift_laws.proofs.Simple.{second_stands}
+use Rattle.lift_laws.proofs.Simple.{place_stands, second_stands}
 use Rattle.lift_laws.proofs.Marks.{Marks, marks_is, marks_same, marks_rows, some, Keyed}
 
 -- kept rows name their iterations
-keep_flat : (p : Row → Bool) (R : Iter → List Row) (its : List Iter) → filter p (flat_map R its) ≡ flat_map (λ i. filter p (R i)) its
+pub keep_flat : (p : Row → Bool) (R : Iter → List Row) (its : List Iter) → filter p (flat_map R its) ≡ flat_map (λ i. filter p (R i)) its
 keep_flat p R [] = refl
 keep_flat p R (i ∷ its) = filter_append p (R i) (flat_map R its) ∙ ap (λ l. filter p (R i) ++ l) (keep_flat p R its)
 
@@ -64,22 +64,57 @@ abbrev pub has_two : List Cell → Bool
 has_two (v ∷ u ∷ vs) = true
 has_two _ = false
 
-none_second : (n k : ℕ) (vs : List Cell) → 2 < k → filter (λ r. cell_eq (cell bare three (column 1) r) (num 2)) (item_rows n k vs) ≡ []
-none_second n k [] h = refl
-none_second n k (v ∷ vs) h =
-    let e : cell_eq (num k) (num 2) ≡ false = num_same k 2 ∙ ne_eqb k 2 (λ q. omega arith) in
-    let r = none_second n (k + 1) vs (omega arith) in
-    ap (λ b. cond b ((num n ∷ num k ∷ v ∷ []) ∷ filter (λ r. cell_eq (cell bare three (column 1) r) (num 2)) (item_rows n (k + 1) vs)) (filter (λ r. cell_eq (cell bare three (column 1) r) (num 2)) (item_rows n (k + 1) vs))) e ∙ r
+pub none_placed : (p n k : ℕ) (vs : List Cell) → p < k → filter (λ r. cell_eq (cell bare three (column 1) r) (num p)) (item_rows n k vs) ≡ []
+none_placed p n k [] h = refl
+none_placed p n k (v ∷ vs) h =
+    let e : cell_eq (num k) (num p) ≡ false = num_same k p ∙ ne_eqb k p (λ q. omega arith) in
+    let r = none_placed p n (k + 1) vs (omega arith) in
+    ap (λ b. cond b ((num n ∷ num k ∷ v ∷ []) ∷ filter (λ r. cell_eq (cell bare three (column 1) r) (num p)) (item_rows n (k + 1) vs)) (filter (λ r. cell_eq (cell bare three (column 1) r) (num p)) (item_rows n (k + 1) vs))) e ∙ r
 
 second_item : (n : ℕ) (vs : List Cell) → some (filter (λ r. cell_eq (cell bare three (column 1) r) (num 2)) (item_rows n 1 vs)) ≡ has_two vs
 second_item n [] = refl
 second_item n (v ∷ []) = refl
-second_item n (v ∷ u ∷ vs) = ap (λ l. some ((num n ∷ num 2 ∷ u ∷ []) ∷ l)) (none_second n 3 vs (omega arith))
+second_item n (v ∷ u ∷ vs) = ap (λ l. some ((num n ∷ num 2 ∷ u ∷ []) ∷ l)) (none_placed 2 n 3 vs (omega arith))
 
 pub marks_second : (g : Iter → List Cell) (its : List Iter) (a : List Row) → Ascends (λ i. i.number) 0 its → Same a (value_rows g its) → Marks (second_rows a) (λ i. has_two (g i)) its
 marks_second g its a asc s =
     marks_same (second_stands g its a s)
     (marks_is (all_each _ (λ i. second_item i.number (g i)) its) (marks_kept three (λ r. cell_eq (cell bare three (column 1) r) (num 2)) (λ i. item_rows i.number 1 (g i)) its a asc (keyed_items g) s))
+
+-- the first items
+abbrev pub heads : List Cell → List Cell
+heads [] = []
+heads (v ∷ vs) = v ∷ []
+
+pub heads_stand : (g : Iter → List Cell) (its : List Iter) (a : List Row) → Same a (value_rows g its) → Same (head_rows a) (value_rows (λ i. heads (g i)) its)
+heads_stand g its a s =
+    let ps = pair 0 0 ∷ pair 1 1 ∷ pair 2 2 ∷ [] in
+    let test = λ (r : Row). cell_eq (cell bare three (column 1) r) (num 1) in
+    same-trans (place_stands 1 ps (λ n j v x y. refl) g its a s)
+    (same-trans (same-map (pick three ps) (same-keep test s))
+    (same-of (ap (map (pick three ps)) (keep_flat test (λ i. item_rows i.number 1 (g i)) its)
+    ∙ map-flat (pick three ps) (λ i. filter test (item_rows i.number 1 (g i))) its
+    ∙ flat-all _ _ its (all_each _ (λ i. at_first i.number (g i)) its))))
+  where
+    at_first : (n : ℕ) (vs : List Cell) → map (pick three (pair 0 0 ∷ pair 1 1 ∷ pair 2 2 ∷ [])) (filter (λ r. cell_eq (cell bare three (column 1) r) (num 1)) (item_rows n 1 vs)) ≡ item_rows n 1 (heads vs)
+    at_first n [] = refl
+    at_first n (v ∷ vs) = ap (λ l. map (pick three (pair 0 0 ∷ pair 1 1 ∷ pair 2 2 ∷ [])) ((num n ∷ num 1 ∷ v ∷ []) ∷ l)) (none_placed 1 n 2 vs (omega arith))
+
+-- those that have an item that passes a test
+some_passed : (t : Cell → Bool) (test : Row → Bool) → ((n k : ℕ) (v : Cell) → test (num n ∷ num k ∷ v ∷ []) ≡ t v) → (n k : ℕ) (vs : List Cell) → some (filter test (item_rows n k vs)) ≡ list_any t vs
+some_passed t test same n k [] = refl
+some_passed t test same n k (v ∷ vs) =
+    let e = some_passed t test same n (k + 1) vs in
+    let rest = filter test (item_rows n (k + 1) vs) in
+    ap (λ b. some (cond b ((num n ∷ num k ∷ v ∷ []) ∷ rest) rest)) (same n k v)
+    ∙ elim (t v) as (λ b. some (cond b ((num n ∷ num k ∷ v ∷ []) ∷ rest) rest) ≡ (b || list_any t vs)) [
+      | true ↦ lt-ltb 0 (1 + total (λ r. 1) rest) (omega arith)
+      | false ↦ e
+    ]
+
+pub marks_items : (t : Cell → Bool) (test : Row → Bool) → ((n k : ℕ) (v : Cell) → test (num n ∷ num k ∷ v ∷ []) ≡ t v) → (g : Iter → List Cell) (its : List Iter) (a : List Row) → Ascends (λ i. i.number) 0 its → Same a (value_rows g its) → Marks (project three (pair 0 0 ∷ []) (filter test a)) (λ i. list_any t (g i)) its
+marks_items t test same g its a asc s =
+    marks_is (all_each _ (λ i. some_passed t test same i.number 1 (g i)) its) (marks_kept three test (λ i. item_rows i.number 1 (g i)) its a asc (keyed_items g) s)
 
 -- those that have an item of a kind
 abbrev pub is_kind : ItemKind → Cell → Bool
@@ -117,16 +152,6 @@ kinds_stand kind g its a s = record {
         ap (λ t. cond (is_kind kind v) (w (num n ∷ [])) 0 + 0 + t) (items w n (k + 1) vs)
         ∙ ap (λ t. t + total (λ r. cond (is_kind kind (cell bare three (column 2) r)) (w (pick three (pair 0 0 ∷ []) r)) 0) (item_rows n (k + 1) vs)) (add-zero (cond (is_kind kind v) (w (num n ∷ [])) 0))
 
-some_kind : (kind : ItemKind) (n k : ℕ) (vs : List Cell) → some (filter (λ r. is_kind kind (cell bare three (column 2) r)) (item_rows n k vs)) ≡ list_any (is_kind kind) vs
-some_kind kind n k [] = refl
-some_kind kind n k (v ∷ vs) =
-    let e = some_kind kind n (k + 1) vs in
-    elim (is_kind kind v) as (λ b. some (cond b ((num n ∷ num k ∷ v ∷ []) ∷ filter (λ r. is_kind kind (cell bare three (column 2) r)) (item_rows n (k + 1) vs)) (filter (λ r. is_kind kind (cell bare three (column 2) r)) (item_rows n (k + 1) vs))) ≡ (b || list_any (is_kind kind) vs)) [
-      | true ↦ lt-ltb 0 (1 + total (λ r. 1) (filter (λ r. is_kind kind (cell bare three (column 2) r)) (item_rows n (k + 1) vs))) (omega arith)
-      | false ↦ e
-    ]
-
 pub marks_kind : (kind : ItemKind) (g : Iter → List Cell) (its : List Iter) (a : List Row) → Ascends (λ i. i.number) 0 its → Same a (value_rows g its) → Marks (kind_rows kind a) (λ i. list_any (is_kind kind) (g i)) its
 marks_kind kind g its a asc s =
-    marks_same (kinds_stand kind g its a s)
-    (marks_is (all_each _ (λ i. some_kind kind i.number 1 (g i)) its) (marks_kept three (λ r. is_kind kind (cell bare three (column 2) r)) (λ i. item_rows i.number 1 (g i)) its a asc (keyed_items g) s))
+    marks_same (kinds_stand kind g its a s) (marks_items (is_kind kind) (λ r. is_kind kind (cell bare three (column 2) r)) (λ n k v. refl) g its a asc s)

@@ -3,6 +3,7 @@ use Rattle.std.proofs.Common.{◌≡◌, ℕ, ◌+◌, ◌<◌, ◌≤◌, Bool,
 use Rattle.std.specs.List.{filter, flat_map, list_any}
 use Rattle.std.proofs.lemmas.Bool.{lt-ltb, ne_eqb}
 use Rattle.xq_base.specs.declared.fun.Fun.TheVariants as f'
+use Rattle.plan_dag.specs.declared.pairs.Pair.{Pair}
 use Rattle.plan_dag.specs.ItemRules.{Cell, cell_eq, is_true}
 use Rattle.plan_dag.specs.Rows.{map_rows}
 use Rattle.plan_dag.specs.Cells.{given}
@@ -14,7 +15,7 @@ use Rattle.plan_dag.specs.Meaning.{cells as cells_at}
 use Rattle.lift_laws.specs.Sums.{total, count, bit, AllOf, Ascends, Same}
 use Rattle.lift_laws.specs.Iterations.{Row, Iter, num, item_rows, value_rows, loop_rows}
 use Rattle.lift_laws.specs.States.{column, three, single}
-use Rattle.lift_laws.specs.Shapes.{bare, pair, columns, pick, project, less, with_cell, four, five, literal_rows, seq_rows, second_rows, true_rows, chosen_rows, other_rows, restrict_rows, either_rows}
+use Rattle.lift_laws.specs.Shapes.{bare, pair, columns, pick, project, less, with_cell, four, five, literal_rows, seq_rows, placed_rows, second_rows, true_rows, chosen_rows, other_rows, restrict_rows, either_rows}
 use Rattle.lift_laws.proofs.Numbers.{num_same}
 use Rattle.lift_laws.proofs.Multi.{same-map, same-keep, same-of, same-trans, same-append, same-split, total-flat, total-map, total-ext, total-append, total-keep, total-sum}
 use Rattle.lift_laws.proofs.Picks.{Picked, picks, map-map, map-flat, flat-all, all_each, all_mono, join_picks, total-all}
@@ -183,8 +184,8 @@ with_test r = map_rows bare f'.Eq (cells_at bare four (column 1 ∷ column 3 ∷
 abbrev passed : Row → Bool
 passed r = is_true (cell bare five (column 4) r)
 
-told : (k : ℕ) → not (nat_lt k 2 || nat_lt 2 k) ≡ cell_eq (num k) (num 2)
-told k = at (nat_lt k 2) (nat_lt 2 k)
+told : (j k : ℕ) → not (nat_lt j k || nat_lt k j) ≡ cell_eq (num j) (num k)
+told j k = at (nat_lt j k) (nat_lt k j)
   where
     at : (a b : Bool) → not (a || b) ≡ is_eq (cond a Less (cond b Greater Equal))
     at true b = refl
@@ -195,30 +196,38 @@ one_by_one : (rs : List Row) → map_rows bare f'.Eq (cells_at bare four (column
 one_by_one [] = refl
 one_by_one (r ∷ rs) = let e = one_by_one rs in let a = append_none (map (λ v. r ++ v ∷ []) (given (bare.value f'.Eq (cells_at bare four (column 1 ∷ column 3 ∷ []) r)))) in cc
 
-pub second_stands : (f : Iter → List Cell) (its : List Iter) (c : List Row) → Same c (value_rows f its) → Same (second_rows c) (two_rows c)
-second_stands f its c s = record {
+-- the rows at a position, told by a test
+pub place_stands : (k : ℕ) (ps : List Pair) → ((n j : ℕ) (v x y : Cell) → pick five ps (num n ∷ num j ∷ v ∷ x ∷ y ∷ []) ≡ pick three ps (num n ∷ num j ∷ v ∷ [])) → (f : Iter → List Cell) (its : List Iter) (c : List Row) → Same c (value_rows f its)
+    → Same (placed_rows k ps c) (project three ps (filter (λ r. cell_eq (cell bare three (column 1) r) (num k)) c))
+place_stands k ps same f its c s = record {
   at = λ w.
-      let out = pick five (pair 0 0 ∷ []) in
+      let out = pick five ps in
       let u = λ (r : Row). cond (passed r) (w (out r)) 0 in
-      let v = λ (r : Row). cond (cell_eq (cell bare three (column 1) r) (num 2)) (w (pick three (pair 0 0 ∷ []) r)) 0 in
-      total-map w out (filter passed (map_rows bare f'.Eq (cells_at bare four (column 1 ∷ column 3 ∷ [])) (with_cell (num 2) c)))
-      ∙ total-keep (λ r. w (out r)) passed (map_rows bare f'.Eq (cells_at bare four (column 1 ∷ column 3 ∷ [])) (with_cell (num 2) c))
-      ∙ ap (total u) (one_by_one (with_cell (num 2) c))
-      ∙ total-flat u with_test (with_cell (num 2) c)
-      ∙ total-map (λ r. total u (with_test r)) (λ r. r ++ num 2 ∷ []) c
-      ∙ s.at (λ r. total u (with_test (r ++ num 2 ∷ [])))
-      ∙ total-flat (λ r. total u (with_test (r ++ num 2 ∷ []))) (λ i. item_rows i.number 1 (f i)) its
+      let v = λ (r : Row). cond (cell_eq (cell bare three (column 1) r) (num k)) (w (pick three ps r)) 0 in
+      total-map w out (filter passed (map_rows bare f'.Eq (cells_at bare four (column 1 ∷ column 3 ∷ [])) (with_cell (num k) c)))
+      ∙ total-keep (λ r. w (out r)) passed (map_rows bare f'.Eq (cells_at bare four (column 1 ∷ column 3 ∷ [])) (with_cell (num k) c))
+      ∙ ap (total u) (one_by_one (with_cell (num k) c))
+      ∙ total-flat u with_test (with_cell (num k) c)
+      ∙ total-map (λ r. total u (with_test r)) (λ r. r ++ num k ∷ []) c
+      ∙ s.at (λ r. total u (with_test (r ++ num k ∷ [])))
+      ∙ total-flat (λ r. total u (with_test (r ++ num k ∷ []))) (λ i. item_rows i.number 1 (f i)) its
       ∙ total-ext _ _ its (λ i. items w i.number 1 (f i))
       ∙ sym (total-flat v (λ i. item_rows i.number 1 (f i)) its)
       ∙ sym (s.at v)
-      ∙ sym (total-map w (pick three (pair 0 0 ∷ [])) (filter (λ r. cell_eq (cell bare three (column 1) r) (num 2)) c) ∙ total-keep (λ r. w (pick three (pair 0 0 ∷ []) r)) (λ r. cell_eq (cell bare three (column 1) r) (num 2)) c);
+      ∙ sym (total-map w (pick three ps) (filter (λ r. cell_eq (cell bare three (column 1) r) (num k)) c) ∙ total-keep (λ r. w (pick three ps r)) (λ r. cell_eq (cell bare three (column 1) r) (num k)) c);
 }
   where
-    items : (w : Row → ℕ) (n k : ℕ) (vs : List Cell) → total (λ r. total (λ q. cond (passed q) (w (pick five (pair 0 0 ∷ []) q)) 0) (with_test (r ++ num 2 ∷ []))) (item_rows n k vs) ≡ total (λ r. cond (cell_eq (cell bare three (column 1) r) (num 2)) (w (pick three (pair 0 0 ∷ []) r)) 0) (item_rows n k vs)
-    items w n k [] = refl
-    items w n k (v ∷ vs) =
-        ap (λ t. cond (not (nat_lt k 2 || nat_lt 2 k)) (w (num n ∷ [])) 0 + 0 + t) (items w n (k + 1) vs)
-        ∙ ap (λ t. t + total (λ r. cond (cell_eq (cell bare three (column 1) r) (num 2)) (w (pick three (pair 0 0 ∷ []) r)) 0) (item_rows n (k + 1) vs)) (add-zero (cond (not (nat_lt k 2 || nat_lt 2 k)) (w (num n ∷ [])) 0) ∙ ap (λ b. cond b (w (num n ∷ [])) 0) (told k))
+    items : (w : Row → ℕ) (n j : ℕ) (vs : List Cell) → total (λ r. total (λ q. cond (passed q) (w (pick five ps q)) 0) (with_test (r ++ num k ∷ []))) (item_rows n j vs) ≡ total (λ r. cond (cell_eq (cell bare three (column 1) r) (num k)) (w (pick three ps r)) 0) (item_rows n j vs)
+    items w n j [] = refl
+    items w n j (v ∷ vs) =
+        let b = not (nat_lt j k || nat_lt k j) in
+        let x = w (pick five ps (num n ∷ num j ∷ v ∷ num k ∷ BoolItem b ∷ [])) in
+        let rest = total (λ r. cond (cell_eq (cell bare three (column 1) r) (num k)) (w (pick three ps r)) 0) (item_rows n (j + 1) vs) in
+        ap (λ t. cond b x 0 + 0 + t) (items w n (j + 1) vs)
+        ∙ ap (λ t. t + rest) (add-zero (cond b x 0) ∙ ap (λ d. cond d x 0) (told j k) ∙ ap (λ q. cond (cell_eq (num j) (num k)) (w q) 0) (same n j v (num k) (BoolItem b)))
+
+pub second_stands : (f : Iter → List Cell) (its : List Iter) (c : List Row) → Same c (value_rows f its) → Same (second_rows c) (two_rows c)
+second_stands f its c s = place_stands 2 (pair 0 0 ∷ []) (λ n j v x y. refl) f its c s
 
 -- a difference looks at what stands right, wherever it stands
 pub less_same : (ls rs qs : List Row) → Same rs qs → less ls rs ≡ less ls qs
@@ -270,7 +279,7 @@ restrict_stands p g its l v a s e =
     ∙ flat-all _ _ js (all_each _ (λ i. map-map out (λ r. side i ++ r) (item_rows i.number 1 (g i)) ∙ restrict_items i.number 1 (g i)) js)))
 
 -- both branches together
-same_items : (n k : ℕ) (vs : List Cell) → map (λ r. cells_at bare three three r) (item_rows n k vs) ≡ item_rows n k vs
+pub same_items : (n k : ℕ) (vs : List Cell) → map (λ r. cells_at bare three three r) (item_rows n k vs) ≡ item_rows n k vs
 same_items n k [] = refl
 same_items n k (v ∷ vs) = ap (λ l. (num n ∷ num k ∷ v ∷ []) ∷ l) (same_items n (k + 1) vs)
 
@@ -290,6 +299,15 @@ either_stands p f g its a b sa sb =
           ∙ total-ext _ _ its (λ i. elim (p i) as (λ t. cond t (total w (fr i)) 0 + cond (not t) (total w (gr i)) 0 ≡ total w (item_rows i.number 1 (cond t (f i) (g i)))) [ true ↦ add-zero _ | false ↦ zero-add _ ])
           ∙ sym (total-flat w (λ i. item_rows i.number 1 (cond (p i) (f i) (g i))) its);
     })
+
+-- iterations without rows may be left out
+pub left_out : (p : Iter → Bool) (f : Iter → List Cell) → ((i : Iter) → p i ≡ false → f i ≡ []) → (its : List Iter) → value_rows f its ≡ value_rows f (filter p its)
+left_out p f none [] = refl
+left_out p f none (i ∷ its) = go (p i) refl (left_out p f none its)
+  where
+    go : (b : Bool) → p i ≡ b → value_rows f its ≡ value_rows f (filter p its) → item_rows i.number 1 (f i) ++ value_rows f its ≡ value_rows f (cond (p i) (i ∷ filter p its) (filter p its))
+    go true e r = ap (λ l. item_rows i.number 1 (f i) ++ l) r ∙ sym (ap (λ b. value_rows f (cond b (i ∷ filter p its) (filter p its))) e)
+    go false e r = ap (λ vs. item_rows i.number 1 vs ++ value_rows f its) (none i e) ∙ r ∙ sym (ap (λ b. value_rows f (cond b (i ∷ filter p its) (filter p its))) e)
 
 pub other_stands : (p : Iter → Bool) (its : List Iter) (l c : List Row) → Ascends (λ i. i.number) 0 its → Same l (loop_rows its) → Same c (loop_rows (filter p its)) → Same (other_rows l c) (loop_rows (filter (λ i. not (p i)) its))
 other_stands p its l c a sl sc =

@@ -42,7 +42,7 @@ Staged s l [] (b ∷ bs) = ⊥
 Staged s l (c ∷ cs) [] = ⊥
 Staged s l (c ∷ cs) (b ∷ bs) = (at s c.op ≡ record { cols = single; rows = other_rows l (less l b) }) × Staged s (less l b) cs bs
 
-rank_apart : (c d : Code) → check_rank c < check_rank d → code_eq c d ≡ false
+pub rank_apart : (c d : Code) → check_rank c < check_rank d → code_eq c d ≡ false
 rank_apart c d l = code_apart c d (λ e. let h = ap check_rank e in absurd (omega arith))
 
 rank_above : (c d : Code) → check_rank d < check_rank c → code_eq c d ≡ false
@@ -118,6 +118,16 @@ hold_sizes s (t ∷ ts) (g ∷ gs) its h =
     let e = total-sum (λ i. length (g i)) (λ i. total (λ k. length (k i)) gs) its in
     omega arith
 
+-- the loop's rows and the arguments' are no more than the work
+pub args_few : (docs : Docs) (s : State) (site : Site) (r : Rule) (looped : OpId) (args : List OpId) (N : ℕ) (its : List Iter) (gs : List (Iter → List Cell)) → Holds s looped single (loop_rows its) → HoldAll s args gs its → call_cost docs site r gs its ≤ N
+    → length (at s looped).rows + op_sizes s args ≤ N
+args_few docs s site r looped args N its gs hl hp enough =
+    let a = same-length hl.rows_are ∙ size_loop its ∙ length-total its in
+    let d = hold_sizes s args gs its hp in
+    let e = total-sum (λ (i : Iter). 1) (λ i. total (λ (g : Iter → List Cell). length (g i)) gs) its in
+    let m = total_most (λ i. 1 + total (λ (g : Iter → List Cell). length (g i)) gs) (λ i. 1 + total (λ (g : Iter → List Cell). length (g i)) gs + length (list_of (value_in (call_answer docs site r gs i))) + rule_work r (Some (map (λ g. g i) gs)) (value_in (call_answer docs site r gs i))) its (λ i. omega arith) in
+    omega arith
+
 module _ (docs : Docs) {s s' : State} (site : Site) (r : Rule) (looped : OpId) (args : List OpId) (t : OpId) (cs : List Check) (bs mids : List (List Row)) (tests : List (Iter → List Cell) → List (Iter → Bool))
     (grow : Grows s s' cs) (in_cs : AllOf (PlacedCheck s' site) cs) (still : OwnSteps s s' site r args) (ordered : InCodeOrder cs)
     (small : (N : ℕ) → length (at s looped).rows + op_sizes s args ≤ N → AllOf (λ j. length j ≤ N) mids → Small s' (length s.tables) (length s'.tables) N)
@@ -130,12 +140,7 @@ module _ (docs : Docs) {s s' : State} (site : Site) (r : Rule) (looped : OpId) (
   module _ (N : ℕ) (its : List Iter) (gs : List (Iter → List Cell)) (asc : Ascends (λ i. i.number) 0 its) (hl : Holds s looped single (loop_rows its)) (hp : HoldAll s args gs its)
       (tree : TreeId → Option (Tree Text)) (rooted : AllOf (λ g. AllOf (λ i. AllOf (Rooted tree) (g i)) its) gs) (enough : call_cost docs site r gs its ≤ N) where
     few : length (at s looped).rows + op_sizes s args ≤ N
-    few =
-        let a = same-length hl.rows_are ∙ size_loop its ∙ length-total its in
-        let d = hold_sizes s args gs its hp in
-        let e = total-sum (λ (i : Iter). 1) (λ i. total (λ (g : Iter → List Cell). length (g i)) gs) its in
-        let m = total_most (λ i. 1 + total (λ (g : Iter → List Cell). length (g i)) gs) (λ i. 1 + total (λ (g : Iter → List Cell). length (g i)) gs + length (list_of (value_in (call_answer docs site r gs i))) + rule_work r (Some (map (λ g. g i) gs)) (value_in (call_answer docs site r gs i))) its (λ i. omega arith) in
-        omega arith
+    few = args_few docs s site r looped args N its gs hl hp enough
 
     all_small : Small s' (length s.tables) (length s'.tables) N
     all_small = small N few (sized N its gs asc hl hp enough)

@@ -1,5 +1,5 @@
 -- Calls of functions of one item that give an item of none too, from the rows of their operators: texts, lengths and names.
-use Rattle.std.proofs.Common.{◌≡◌, ℕ, ◌+◌, true, false, cond, not, List, [], ◌∷◌, ◌++◌, length, refl, sym, ap, ◌∙◌, inl, pos, None}
+use Rattle.std.proofs.Common.{◌≡◌, ◌+◌, false, cond, not, List, [], ◌∷◌, length, refl, sym, ap, ◌∙◌, inl, pos, None}
 use Rattle.std.specs.List.{filter}
 use Rattle.xq_base.specs.declared.code.Code.TheVariants as c
 use Rattle.xq_base.specs.declared.fun.Fun.{Fun}
@@ -27,11 +27,12 @@ use Rattle.lift_laws.specs.Stages.{Stages, item_marks, item_most, TextRule, Text
 use Rattle.lift_laws.specs.Lifting.{CallLifts, call_answer}
 use Rattle.lift_laws.proofs.Multi.{same-of, same-trans}
 use Rattle.lift_laws.proofs.Picks.{all_each, all_mono, flat-all}
-use Rattle.lift_laws.proofs.Simple.{literal_stands, either_stands}
+use Rattle.lift_laws.proofs.Simple.{literal_stands, either_stands, left_out}
 use Rattle.lift_laws.proofs.Marks.{some, unmarked_stands, fault_in}
 use Rattle.lift_laws.proofs.Operands.{marks_any}
 use Rattle.lift_laws.proofs.FunctionCases.{some_items}
-use Rattle.lift_laws.proofs.ItemCase.{OneOrCode, CodesAre, first_in, faults_are, values_stand, checked_item_call}
+use Rattle.lift_laws.proofs.ItemCase.{OneOrCode, first_in, faults_are, values_stand, checked_item_call}
+use Rattle.lift_laws.proofs.Stagings.{CodesAre}
 
 -- the same, but nothing of none
 abbrev but_none : (Items → Answer Items) → Items → Answer Items
@@ -40,9 +41,9 @@ but_none B (v ∷ vs) = B (v ∷ vs)
 
 module _ (g : Fun) (J : Cell → Answer Items) (outcome : (v : Cell) → bare.value g (v ∷ []) ≡ outcome_of (J v)) (one : (v : Cell) → OneOrCode (c.XPTY0004 ∷ []) (J v))
     (B : Items → Answer Items) (w : Cell) (at_none : B [] ≡ Value (w ∷ [])) (at_one : (v : Cell) → B (v ∷ []) ≡ J v) (at_two : (v u : Cell) (vs : Items) → B (v ∷ u ∷ vs) ≡ Refused c.XPTY0004) where
-  first_faults : (k : Check) (ks : List Check) → CodesAre (k ∷ ks) (c.XPTY0004 ∷ []) → (vs : Items) → fault_in (B vs) ≡ first_in g J outcome [] one (but_none B) refl at_one at_two k ks vs
-  first_faults k ks e [] = ap fault_in at_none ∙ faults_are g J outcome [] one (but_none B) refl at_one at_two k ks e []
-  first_faults k ks e (v ∷ vs) = faults_are g J outcome [] one (but_none B) refl at_one at_two k ks e (v ∷ vs)
+  first_faults : (k : Check) (ks : List Check) → CodesAre (k ∷ ks) (c.XPTY0004 ∷ []) → (vs : Items) → fault_in (B vs) ≡ first_in [] g J outcome [] one (but_none B) refl at_one at_two k ks vs
+  first_faults k ks e [] = ap fault_in at_none ∙ faults_are [] g J outcome [] one (but_none B) refl at_one at_two k ks e []
+  first_faults k ks e (v ∷ vs) = faults_are [] g J outcome [] one (but_none B) refl at_one at_two k ks e (v ∷ vs)
 
   calm_but : (vs : Items) → fault_in (B vs) ≡ None → fault_in (but_none B vs) ≡ None
   calm_but [] e = refl
@@ -51,17 +52,9 @@ module _ (g : Fun) (J : Cell → Answer Items) (outcome : (v : Cell) → bare.va
   abbrev given_in : Items → Items
   given_in vs = list_of (value_in (but_none B vs))
 
-  left_out : (n : ℕ) (vs : Items) (rest : List Row) → item_rows n 1 (given_in vs) ++ rest ≡ cond (some vs) (item_rows n 1 (given_in vs) ++ rest) rest
-  left_out n [] rest = refl
-  left_out n (v ∷ vs) rest = ap (λ b. cond b (item_rows n 1 (given_in (v ∷ vs)) ++ rest) rest) (some_items (v ∷ vs))
-
-  all_left_out : (h : Iter → List Cell) (its : List Iter) → value_rows (λ i. given_in (h i)) its ≡ value_rows (λ i. given_in (h i)) (filter (λ i. some (h i)) its)
-  all_left_out h [] = refl
-  all_left_out h (i ∷ its) =
-      let kept = value_rows (λ j. given_in (h j)) (filter (λ j. some (h j)) its) in
-      ap (λ l. item_rows i.number 1 (given_in (h i)) ++ l) (all_left_out h its)
-      ∙ left_out i.number (h i) kept
-      ∙ elim (some (h i)) as (λ b. cond b (item_rows i.number 1 (given_in (h i)) ++ kept) kept ≡ value_rows (λ j. given_in (h j)) (cond b (i ∷ filter (λ j. some (h j)) its) (filter (λ j. some (h j)) its))) [ true ↦ refl | false ↦ refl ]
+  none_given : (vs : Items) → some vs ≡ false → given_in vs ≡ []
+  none_given [] e = refl
+  none_given (v ∷ vs) e = let z = some_items (v ∷ vs) ∙ e in cc
 
   both_are : (vs : Items) → cond (some vs) (given_in vs) (w ∷ []) ≡ list_of (value_in (B vs))
   both_are [] = ap (λ x. list_of (value_in x)) (sym at_none)
@@ -71,7 +64,7 @@ module _ (g : Fun) (J : Cell → Answer Items) (outcome : (v : Cell) → bare.va
       → Same (text_value_rows g w l a) (value_rows (λ i. list_of (value_in (B (h i)))) its)
   text_stand l a its h asc sl sa calm =
       let p = λ (i : Iter). some (h i) in
-      let front = same-trans (values_stand g J outcome [] one (but_none B) refl at_one at_two h its a sa (all_mono _ _ (λ i (e : fault_in (B (h i)) ≡ None). calm_but (h i) e) its calm)) (same-of (all_left_out h its)) in
+      let front = same-trans (values_stand [] g J outcome [] one (but_none B) refl at_one at_two h its a sa (all_mono _ _ (λ i (e : fault_in (B (h i)) ≡ None). calm_but (h i) e) its calm)) (same-of (left_out p (λ i. given_in (h i)) (λ i e. none_given (h i) e) its)) in
       let back = literal_stands w (filter (λ i. not (p i)) its) _ (unmarked_stands p its l _ sl (marks_any h its a asc sa)) in
       same-trans (either_stands p (λ i. given_in (h i)) (λ i. w ∷ []) its _ _ front back) (same-of (flat-all _ _ its (all_each _ (λ i. ap (item_rows i.number 1) (both_are (h i))) its)))
 
@@ -79,7 +72,7 @@ module _ (g : Fun) (J : Cell → Answer Items) (outcome : (v : Cell) → bare.va
       → Makes s s1 t three (text_value_rows g w (at s looped).rows (at s a).rows) (length (at s looped).rows + length (at s a).rows)
       → Stages site (item_most g (at s looped).rows (at s a).rows) s1 s2 (at s looped).rows (item_marks g [] (at s a).rows) cs → CallLifts docs s s2 site r looped (a ∷ []) t
   text_call docs s s1 s2 site r looped a t cs no_step rule_is m st =
-      checked_item_call g J outcome [] one (but_none B) refl at_one at_two docs s s1 s2 site r looped a t cs no_step (tt, tt) tt B rule_is first_faults _ _ m (λ N l. l)
+      checked_item_call [] g J outcome [] one (but_none B) refl at_one at_two docs s s1 s2 site r looped a t cs no_step (tt, tt) tt B rule_is first_faults _ _ m (λ N l. l)
       (λ its h asc hl ha calm. text_stand (at s looped).rows (at s a).rows its h asc hl.rows_are ha.rows_are calm) st
 
 -- texts, lengths and names

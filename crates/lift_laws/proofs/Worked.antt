@@ -2,12 +2,16 @@
 use Rattle.std.proofs.Common.{◌≡◌, ℕ, ◌+◌, [], ◌∷◌, pos, map, Some, true, false, refl}
 use Rattle.std.specs.List.{filter}
 use Rattle.xq_base.specs.declared.item.Atom.TheVariants as a
+use Rattle.xq_base.specs.declared.axis.Axis.TheVariants as x
+use Rattle.xq_base.specs.declared.axis.NodeTest.TheVariants as n
 use Rattle.xq_base.specs.declared.fun.Fun.TheVariants as f
+use Rattle.xq_base.specs.declared.fun.CompOp.TheVariants as o'
 use Rattle.doc_table.specs.Tree.{Branch, OfDocument, TextNode, no_more as no_trees}
-use Rattle.doc_table.specs.Identity.{BuiltTree}
+use Rattle.doc_table.specs.Identity.{DocTree, BuiltTree}
 use Rattle.doc_table.specs.Nodes.{root_path}
-use Rattle.doc_table.specs.Items.{IntItem, BoolItem, NodeItem}
+use Rattle.doc_table.specs.Items.{IntItem, TextItem, BoolItem, NodeItem}
 use Rattle.plan_dag.specs.declared.op.Op.TheVariants as o
+use Rattle.plan_dag.specs.ItemRules.{Cell}
 use Rattle.plan_dag.specs.Meaning.{Graph}
 use Rattle.core_meaning.specs.Expr.{Site, Apply, Make, Expr, Exprs, Lit, Var, Seq, For, Call, no_more, one_more}
 use Rattle.core_meaning.specs.Meaning.{no_variables}
@@ -18,6 +22,9 @@ use Rattle.lift_laws.specs.Bulk.{value, chosen, inside, faults, cost}
 use Rattle.lift_laws.specs.Worlds.{World, cell_of}
 use Rattle.lift_laws.specs.States.{column, op_id, three, state_of, at, demand_at}
 use Rattle.lift_laws.specs.Shapes.{turn_map, seq_rows, back_rows, chosen_rows, restrict_rows}
+use Rattle.lift_laws.specs.Stages.{boolean_marks, boolean_rows}
+use Rattle.lift_laws.specs.Pairs.{Quotients, pair_codes, pair_marks, pair_value_rows, filled_rows, general_marks, general_rows}
+use Rattle.lift_laws.specs.Walks.{ordered_rows, walk_rows}
 
 abbrev root : Iter
 root = record { number = 1; env = no_variables; vector = [] }
@@ -95,6 +102,47 @@ choosing = refl
 
 some_iterations : restrict_rows ((num 2 ∷ []) ∷ []) ((num 1 ∷ num 1 ∷ num 5 ∷ []) ∷ (num 2 ∷ num 1 ∷ num 6 ∷ []) ∷ []) ≡ (num 2 ∷ num 1 ∷ num 6 ∷ []) ∷ []
 some_iterations = refl
+
+-- 8 idiv 2 in one iteration; none where an operand has a second item, or none
+divisions : pair_value_rows f.IntegerDivide ((num 1 ∷ []) ∷ (num 2 ∷ []) ∷ (num 3 ∷ []) ∷ []) ((num 1 ∷ num 1 ∷ num 8 ∷ []) ∷ (num 2 ∷ num 1 ∷ num 8 ∷ []) ∷ (num 3 ∷ num 1 ∷ num 8 ∷ []) ∷ []) ((num 1 ∷ num 1 ∷ num 2 ∷ []) ∷ (num 2 ∷ num 1 ∷ num 2 ∷ []) ∷ (num 2 ∷ num 2 ∷ num 2 ∷ []) ∷ [])
+    ≡ (num 1 ∷ num 1 ∷ num 4 ∷ []) ∷ []
+divisions = refl
+
+-- a second item, or a text alone, is a wrong type; division by 0 is told of both together
+wrong_operands : map (λ m. m.1) (pair_marks f.IntegerDivide (pair_codes Quotients) ((num 1 ∷ []) ∷ (num 2 ∷ []) ∷ (num 3 ∷ []) ∷ []) ((num 1 ∷ num 1 ∷ TextItem [] ∷ []) ∷ (num 2 ∷ num 1 ∷ num 8 ∷ []) ∷ (num 3 ∷ num 1 ∷ num 8 ∷ []) ∷ []) ((num 2 ∷ num 1 ∷ num 0 ∷ []) ∷ (num 3 ∷ num 1 ∷ num 0 ∷ []) ∷ (num 3 ∷ num 2 ∷ num 0 ∷ []) ∷ []))
+    ≡ ((num 1 ∷ []) ∷ (num 3 ∷ []) ∷ []) ∷ [] ∷ ((num 2 ∷ []) ∷ []) ∷ [] ∷ []
+wrong_operands = refl
+
+-- the first item alone is true or false; behind an item that is no node there is no second one
+booleans : boolean_rows true ((num 1 ∷ []) ∷ (num 2 ∷ []) ∷ (num 3 ∷ []) ∷ []) ((num 3 ∷ num 1 ∷ num 0 ∷ []) ∷ (num 2 ∷ num 2 ∷ num 0 ∷ []) ∷ (num 2 ∷ num 1 ∷ num 5 ∷ []) ∷ [])
+    ≡ (num 2 ∷ num 1 ∷ BoolItem true ∷ []) ∷ (num 1 ∷ num 1 ∷ BoolItem false ∷ []) ∷ (num 3 ∷ num 1 ∷ BoolItem false ∷ []) ∷ []
+booleans = refl
+
+no_boolean : map (λ m. m.1) (boolean_marks ((num 3 ∷ num 1 ∷ num 0 ∷ []) ∷ (num 2 ∷ num 2 ∷ num 0 ∷ []) ∷ (num 2 ∷ num 1 ∷ num 5 ∷ []) ∷ [])) ≡ ((num 2 ∷ []) ∷ []) ∷ []
+no_boolean = refl
+
+-- a pair of the same iteration is equal; 5 and a text are no pair
+equal_pairs : general_rows o'.Eq ((num 1 ∷ []) ∷ (num 2 ∷ []) ∷ []) ((num 1 ∷ num 1 ∷ num 5 ∷ []) ∷ (num 1 ∷ num 2 ∷ num 6 ∷ []) ∷ (num 2 ∷ num 1 ∷ num 5 ∷ []) ∷ []) ((num 1 ∷ num 1 ∷ num 6 ∷ []) ∷ (num 2 ∷ num 1 ∷ num 6 ∷ []) ∷ [])
+    ≡ (num 1 ∷ num 1 ∷ BoolItem true ∷ []) ∷ (num 2 ∷ num 1 ∷ BoolItem false ∷ []) ∷ []
+equal_pairs = refl
+
+wrong_pairs : map (λ m. m.1) (general_marks o'.Eq ((num 1 ∷ num 1 ∷ num 5 ∷ []) ∷ (num 2 ∷ num 1 ∷ num 5 ∷ []) ∷ []) ((num 1 ∷ num 1 ∷ num 5 ∷ []) ∷ (num 1 ∷ num 2 ∷ TextItem [] ∷ []) ∷ (num 2 ∷ num 1 ∷ num 6 ∷ []) ∷ [])) ≡ ((num 1 ∷ []) ∷ []) ∷ [] ∷ []
+wrong_pairs = refl
+
+-- an absent text is empty, so that it starts every text
+starts : pair_value_rows f.StartsWith ((num 1 ∷ []) ∷ []) (filled_rows (TextItem []) ((num 1 ∷ []) ∷ []) ((num 1 ∷ num 1 ∷ TextItem (7 ∷ []) ∷ []) ∷ [])) (filled_rows (TextItem []) ((num 1 ∷ []) ∷ []) []) ≡ (num 1 ∷ num 1 ∷ BoolItem true ∷ []) ∷ []
+starts = refl
+
+-- nodes get positions by document order in their own iteration
+abbrev node : ℕ → Cell
+node d = NodeItem (record { id = DocTree d; tree = Branch OfDocument no_trees; path = root_path })
+
+in_order : ordered_rows ((num 1 ∷ node 2 ∷ []) ∷ (num 2 ∷ node 1 ∷ []) ∷ (num 1 ∷ node 0 ∷ []) ∷ []) ≡ (num 1 ∷ num 2 ∷ node 2 ∷ []) ∷ (num 2 ∷ num 1 ∷ node 1 ∷ []) ∷ (num 1 ∷ num 1 ∷ node 0 ∷ []) ∷ []
+in_order = refl
+
+-- a step to itself finds each node once in an iteration, and from an item that is no node nothing
+found_once : walk_rows [] x.SelfNode n.Any ((num 1 ∷ num 1 ∷ node 2 ∷ []) ∷ (num 2 ∷ num 1 ∷ node 2 ∷ []) ∷ (num 1 ∷ num 2 ∷ node 2 ∷ []) ∷ (num 1 ∷ num 3 ∷ num 5 ∷ []) ∷ []) ≡ (num 1 ∷ node 2 ∷ []) ∷ (num 2 ∷ node 2 ∷ []) ∷ []
+found_once = refl
 
 -- the plan of the literal 5: a loop of one iteration, the position, the item
 five : Graph

@@ -2,13 +2,16 @@
 -- what the checks of a lifted expression answer.
 use Rattle.std.specs.Prelude.{◌≡◌, ℕ, ◌+◌, Bool, true, false, List, [], ◌∷◌, ◌++◌, length, map, is_none, Option}
 use Rattle.std.specs.List.{flat_map}
+use Rattle.xq_base.specs.declared.axis.Axis.{Axis}
+use Rattle.xq_base.specs.declared.axis.NodeTest.{NodeTest}
 use Rattle.xq_base.specs.declared.code.Code.{Code}
 use Rattle.xq_base.specs.declared.code.Code.TheVariants as c
 use Rattle.xq_base.specs.declared.fun.AtomKind.{AtomKind}
+use Rattle.xq_base.specs.declared.fun.CompOp.{CompOp}
 use Rattle.xq_base.specs.declared.fun.Fun.TheVariants as f
 use Rattle.xq_base.specs.Texts.{Text}
 use Rattle.xq_base.specs.Atoms.{Atom}
-use Rattle.doc_table.specs.Items.{BoolItem}
+use Rattle.doc_table.specs.Items.{TextItem, BoolItem}
 use Rattle.doc_table.specs.Values.{Items, item_of_atom}
 use Rattle.doc_table.specs.NodeRules.{Docs}
 use Rattle.plan_dag.specs.declared.op.OpId.{OpId}
@@ -19,7 +22,9 @@ use Rattle.plan_dag.specs.ItemRules.{Cell, item_rules}
 use Rattle.plan_dag.specs.Meaning.{Graph, table_of, tables, demand_of, answer_from}
 use Rattle.plan_dag.specs.Schema.{is_valid}
 use Rattle.plan_dag.specs.Graphs.{Adds, in_graph, with_check}
-use Rattle.core_meaning.specs.Expr.{Site, Rule, Apply, CastableTo, FailWith, Expr, Exprs, Lit, Empty, Var, Seq, Let, For, If, Call, no_more, one_more}
+use Rattle.core_meaning.specs.Expr.{Site, Rule, Apply, Walk, CastableTo, FailWith, Expr, Exprs, Lit, Empty, Var, Seq, Let, For, If, Call, no_more, one_more}
+use Rattle.core_meaning.specs.declared.node.StepFrom.{StepFrom}
+use Rattle.core_meaning.specs.Rules.{no_node_code}
 use Rattle.core_meaning.specs.Meaning.{val}
 use Rattle.core_meaning.specs.Failures.{fails}
 use Rattle.core_meaning.specs.Work.{free, without, work}
@@ -29,10 +34,12 @@ use Rattle.lift_laws.specs.Iterations.{Row, Iter}
 use Rattle.lift_laws.specs.Bulk.{Fault, faults, cost}
 use Rattle.lift_laws.specs.Worlds.{World, cell_of, Known, Faithful, tree_under}
 use Rattle.lift_laws.specs.States.{State, state_of, step_at, at, IsIn, Makes, Checks, three, single}
-use Rattle.lift_laws.specs.Shapes.{less, beside, four, literal_rows, seq_rows, turn_map, inner_rows, item_var_rows, place_var_rows, back_rows, second_rows, chosen_rows, other_rows, either_rows, into_rows, restrict_rows, any_rows, named_rows, truth_rows, item_value_rows, data_rows, counted_rows, count_value_rows}
+use Rattle.lift_laws.specs.Shapes.{less, beside, four, literal_rows, seq_rows, turn_map, inner_rows, item_var_rows, place_var_rows, back_rows, second_rows, chosen_rows, other_rows, either_rows, into_rows, restrict_rows, any_rows, named_rows, truth_rows, item_value_in, item_fails_rows, data_rows, counted_rows, count_value_rows}
 use Rattle.lift_laws.specs.Lifting.{Group, checks_of, Tells, InCodeOrder, Lifts, LiftsAll, CallLifts, Fair, Rooted}
 use Rattle.lift_laws.specs.Carried.{set_var, CarryOne, CarriedFor, Carries, Restricts}
-use Rattle.lift_laws.specs.Stages.{Stages, ItemRule, rule_of, fun_of, codes_of, item_marks, item_most, uncastable_rows, castable_most, TextRule, text_fun, absent_item, text_value_rows}
+use Rattle.lift_laws.specs.Stages.{Stages, ItemRule, rule_of, fun_of, codes_of, item_marks, item_marks_in, item_most, item_most_in, uncastable_rows, castable_most, TextRule, text_fun, absent_item, text_value_rows, boolean_fun, boolean_marks, boolean_rows, boolean_most}
+use Rattle.lift_laws.specs.Pairs.{PairRule, pair_fun, OfEach, TextPairRule, text_pair_fun, filled_rows, pair_codes, pair_marks, pair_most, pair_value_rows, general_fun, general_marks, general_rows, general_most}
+use Rattle.lift_laws.specs.Walks.{node_cols, ordered_rows, walk_rows, walk_test, MakesStep, union_rows, union_marks, path_rows, path_marks}
 use Rattle.lift_laws.specs.Verdicts.{Verdict, SmallFrom}
 
 -- where nothing fails in any iteration, each has a value
@@ -155,11 +162,11 @@ CountLifts = (docs : Docs) (s s' : State) (site : Site) (looped a t : OpId)
     → Makes s s' t three (count_value_rows (at s looped).rows (at s a).rows) (length (at s looped).rows + length (at s a).rows + length (counted_rows (at s looped).rows (at s a).rows))
     → CallLifts docs s s' site (Apply f.Count) looped (a ∷ []) t
 
--- signs and casts: a map over the items, and a check for each code
+-- signs, casts, roots and documents: a map over the items, and a check for each code
 abbrev pub ItemRulesLift : Type 0
 ItemRulesLift = (docs : Docs) (s s1 s2 : State) (site : Site) (q : ItemRule) (looped a t : OpId) (cs : List Check)
-    → Makes s s1 t three (item_value_rows (fun_of q) (at s a).rows) (length (at s a).rows)
-    → Stages site (item_most (fun_of q) (at s looped).rows (at s a).rows) s1 s2 (at s looped).rows (item_marks (fun_of q) (codes_of q) (at s a).rows) cs
+    → Makes s s1 t three (item_value_in docs (fun_of q) (at s a).rows) (length (at s a).rows)
+    → Stages site (item_most_in docs (fun_of q) (at s looped).rows (at s a).rows) s1 s2 (at s looped).rows (item_marks_in docs (fun_of q) (codes_of q) (at s a).rows) cs
     → CallLifts docs s s2 site (rule_of q) looped (a ∷ []) t
 
 -- texts, lengths and names: a map over the items, an item where there is none, and a check
@@ -174,6 +181,65 @@ abbrev pub CastableLifts : Type 0
 CastableLifts = (docs : Docs) (s s' : State) (site : Site) (kind : AtomKind) (optional : Bool) (looped a t : OpId)
     → Makes s s' t three (truth_rows false (at s looped).rows (uncastable_rows kind optional (at s looped).rows (at s a).rows)) (castable_most kind optional (at s looped).rows (at s a).rows)
     → CallLifts docs s s' site (CastableTo kind optional) looped (a ∷ []) t
+
+-- `boolean` and `not`: a boolean by whether the first item is true, and a check of those that have no effective boolean value
+abbrev pub BooleansLift : Type 0
+BooleansLift = (docs : Docs) (s s1 s2 : State) (site : Site) (there : Bool) (looped a t : OpId) (cs : List Check)
+    → Makes s s1 t three (boolean_rows there (at s looped).rows (at s a).rows) (boolean_most there (at s looped).rows (at s a).rows)
+    → Stages site (length (at s looped).rows + length (at s a).rows) s1 s2 (at s looped).rows (boolean_marks (at s a).rows) cs
+    → CallLifts docs s s2 site (Apply (boolean_fun there)) looped (a ∷ []) t
+
+-- arithmetic, and comparisons of values, of nodes and of texts: a map over both items beside each other, and a check for each code
+abbrev pub PairRulesLift : Type 0
+PairRulesLift = (docs : Docs) (s s1 s2 : State) (site : Site) (q : PairRule) (looped a b t : OpId) (cs : List Check)
+    → Makes s s1 t three (pair_value_rows (pair_fun q) (at s looped).rows (at s a).rows (at s b).rows) (pair_most (at s looped).rows (at s a).rows (at s b).rows)
+    → Stages site (pair_most (at s looped).rows (at s a).rows (at s b).rows) s1 s2 (at s looped).rows (pair_marks (pair_fun q) (pair_codes q) (at s looped).rows (at s a).rows (at s b).rows) cs
+    → CallLifts docs s s2 site (Apply (pair_fun q)) looped (a ∷ b ∷ []) t
+
+-- functions of two texts: the same of both operands with the empty text where they are absent
+abbrev pub TextPairsLift : Type 0
+TextPairsLift = (docs : Docs) (s s1 s2 : State) (site : Site) (q : TextPairRule) (looped a b t : OpId) (cs : List Check)
+    → let l = (at s looped).rows in
+    let x = filled_rows (TextItem []) l (at s a).rows in
+    let y = filled_rows (TextItem []) l (at s b).rows in
+    Makes s s1 t three (pair_value_rows (text_pair_fun q) l x y) (pair_most l x y) → Stages site (pair_most l x y) s1 s2 l (pair_marks (text_pair_fun q) (OfEach c.XPTY0004 ∷ []) l x y) cs
+    → CallLifts docs s s2 site (Apply (text_pair_fun q)) looped (a ∷ b ∷ []) t
+
+-- `or` and `and`: what they give of both booleans
+abbrev pub ConnectivesLift : Type 0
+ConnectivesLift = (docs : Docs) (s s' : State) (site : Site) (looped a b t : OpId)
+    → (Makes s s' t three (pair_value_rows f.Or (at s looped).rows (at s a).rows (at s b).rows) (pair_most (at s looped).rows (at s a).rows (at s b).rows) → CallLifts docs s s' site (Apply f.Or) looped (a ∷ b ∷ []) t)
+    × (Makes s s' t three (pair_value_rows f.And (at s looped).rows (at s a).rows (at s b).rows) (pair_most (at s looped).rows (at s a).rows (at s b).rows) → CallLifts docs s s' site (Apply f.And) looped (a ∷ b ∷ []) t)
+
+-- general comparisons: a boolean by whether some pair is true, and a check for each code that some pair fails with
+abbrev pub GeneralsLift : Type 0
+GeneralsLift = (docs : Docs) (s s1 s2 : State) (site : Site) (op : CompOp) (looped a b t : OpId) (cs : List Check)
+    → Makes s s1 t three (general_rows op (at s looped).rows (at s a).rows (at s b).rows) (general_most op (at s looped).rows (at s a).rows (at s b).rows)
+    → Stages site (length (at s looped).rows + length (at s a).rows + length (at s b).rows) s1 s2 (at s looped).rows (general_marks op (at s a).rows (at s b).rows) cs
+    → CallLifts docs s s2 site (Apply (general_fun op)) looped (a ∷ b ∷ []) t
+
+-- a step: a check of the iterations with an item that is no node, the step from all nodes at once, and positions by document order
+abbrev pub StepsLift : Type 0
+StepsLift = (docs : Docs) (s s1 s2 s3 s4 : State) (site : Site) (texts : List Text) (from : StepFrom) (axis : Axis) (wanted : NodeTest) (looped a k w t : OpId)
+    → Makes s s1 k single (named_rows (at s looped).rows (item_fails_rows f.Name c.XPTY0004 (at s a).rows)) (length (at s looped).rows + length (at s a).rows)
+    → Checks s1 s2 (record { op = k; code = no_node_code from; offset = site.offset })
+    → MakesStep s2 s3 (record { step = record { site = site; axis = axis; test = walk_test texts wanted }; input = a; op = w }) node_cols (walk_rows texts axis wanted (at s2 a).rows)
+    → Makes s3 s4 t three (ordered_rows (at s3 w).rows) (length (at s3 w).rows)
+    → CallLifts docs s s4 site (Walk from axis (walk_test texts wanted)) looped (a ∷ []) t
+
+-- a union: both operands' nodes, each once, by document order, and a check of the iterations with an item that is no node
+abbrev pub UnionsLift : Type 0
+UnionsLift = (docs : Docs) (s s1 s2 : State) (site : Site) (looped a b t : OpId) (cs : List Check)
+    → Makes s s1 t three (union_rows (at s a).rows (at s b).rows) (length (at s looped).rows + length (at s a).rows + length (at s b).rows)
+    → Stages site (length (at s looped).rows + length (at s a).rows + length (at s b).rows) s1 s2 (at s looped).rows (union_marks (at s looped).rows (at s a).rows (at s b).rows) cs
+    → CallLifts docs s s2 site (Apply f.Union) looped (a ∷ b ∷ []) t
+
+-- the result of a path: nodes, each once, by document order, or items that are no nodes, and a check of the iterations with both
+abbrev pub PathsLift : Type 0
+PathsLift = (docs : Docs) (s s1 s2 : State) (site : Site) (looped a t : OpId) (cs : List Check)
+    → Makes s s1 t three (path_rows (at s a).rows) (length (at s a).rows)
+    → Stages site (length (at s looped).rows + length (at s a).rows) s1 s2 (at s looped).rows (path_marks (at s a).rows) cs
+    → CallLifts docs s s2 site (Apply f.PathOrder) looped (a ∷ []) t
 
 -- the failures of all iterations at once are those of the reached evaluations
 abbrev pub FailuresAreReached : Type 0

@@ -8,4 +8,6 @@ pub mod Lifting
 pub mod Carried
 pub mod Verdicts
 pub mod Stages
+pub mod Pairs
+pub mod Walks
 pub mod Laws

@@ -6,6 +6,7 @@ use Rattle.xq_base.specs.declared.code.Code.{Code}
 use Rattle.xq_base.specs.declared.fun.Fun.{Fun}
 use Rattle.xq_base.specs.declared.fun.Fun.TheVariants as f
 use Rattle.doc_table.specs.Items.{BoolItem}
+use Rattle.doc_table.specs.NodeRules.{Docs}
 use Rattle.plan_dag.specs.declared.cols.Col.{Col}
 use Rattle.plan_dag.specs.declared.keys.Key.{Key}
 use Rattle.plan_dag.specs.declared.pairs.Pair.{Pair}
@@ -48,6 +49,11 @@ join_by cl cr a b ls rs = joined bare (cell bare cl a) (cell bare cr b) ls rs
 
 abbrev pub less : List Row → List Row → List Row
 less ls rs = left_over bare (cell bare single (column 0)) (cell bare single (column 0)) ls rs
+
+-- iterations cleared of those that rows name, one table after the other
+abbrev pub cleared : List Row → List (List Row) → List Row
+cleared l [] = l
+cleared l (b ∷ bs) = cleared (less l b) bs
 
 abbrev pub beside : List Col → List Row → List Row → List Row
 beside cs ls rs = ls ++ map (cells bare cs cs) rs
@@ -101,10 +107,17 @@ back_rows m t =
     (project (columns (4 ∷ 5 ∷ 6 ∷ 0 ∷ 1 ∷ 2 ∷ [])) (pair 0 5 ∷ pair 1 1 ∷ pair 2 2 ∷ pair 3 6 ∷ [])
     (join_by (columns (4 ∷ 5 ∷ 6 ∷ [])) three (column 4) (column 0) (project four (pair 4 3 ∷ pair 5 0 ∷ pair 6 1 ∷ []) m) t))
 
+-- the rows at a position, with these columns
+abbrev pub placed_rows : ℕ → List Pair → List Row → List Row
+placed_rows k ps c = project five ps (filter (λ r. is_true (cell bare five (column 4) r)) (map_rows bare f.Eq (cells bare four (column 1 ∷ column 3 ∷ [])) (with_cell (num k) c)))
+
+-- the first items
+abbrev pub head_rows : List Row → List Row
+head_rows c = placed_rows 1 (pair 0 0 ∷ pair 1 1 ∷ pair 2 2 ∷ []) c
+
 -- the iterations that a condition chooses: those with a row that is true, but for those with a second item
 abbrev pub second_rows : List Row → List Row
-second_rows c =
-    project five (pair 0 0 ∷ []) (filter (λ r. is_true (cell bare five (column 4) r)) (map_rows bare f.Eq (cells bare four (column 1 ∷ column 3 ∷ [])) (with_cell (num 2) c)))
+second_rows c = placed_rows 2 (pair 0 0 ∷ []) c
 
 abbrev pub true_rows : List Row → List Row
 true_rows c = project three (pair 0 0 ∷ []) (filter (λ r. is_true (cell bare three (column 2) r)) c)
@@ -138,13 +151,20 @@ named_rows l b = other_rows l (less l b)
 abbrev pub truth_rows : Bool → List Row → List Row → List Row
 truth_rows there l b = either_rows (literal_rows (BoolItem there) (named_rows l b)) (literal_rows (BoolItem (not there)) (less l b))
 
--- what a function of one item gives of the items, at their positions
-abbrev pub item_value_rows : Fun → List Row → List Row
-item_value_rows g a = project four (pair 0 0 ∷ pair 1 1 ∷ pair 2 3 ∷ []) (map_rows bare g (cells bare three (column 2 ∷ [])) a)
+-- what a function of one item gives of the items, at their positions, over documents
+abbrev pub item_value_in : Docs → Fun → List Row → List Row
+item_value_in docs g a = project four (pair 0 0 ∷ pair 1 1 ∷ pair 2 3 ∷ []) (map_rows (item_rules docs []) g (cells bare three (column 2 ∷ [])) a)
 
 -- the iterations with an item for which it fails with a code
+abbrev pub item_fails_in : Docs → Fun → Code → List Row → List Row
+item_fails_in docs g d a = project three (pair 0 0 ∷ []) (map_fails_rows (item_rules docs []) g d (cells bare three (column 2 ∷ [])) a)
+
+-- the same of a function that asks for no document
+abbrev pub item_value_rows : Fun → List Row → List Row
+item_value_rows g a = item_value_in [] g a
+
 abbrev pub item_fails_rows : Fun → Code → List Row → List Row
-item_fails_rows g d a = project three (pair 0 0 ∷ []) (map_fails_rows bare g d (cells bare three (column 2 ∷ [])) a)
+item_fails_rows g d a = item_fails_in [] g d a
 
 -- the items as atomic values
 abbrev pub data_rows : List Row → List Row

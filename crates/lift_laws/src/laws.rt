@@ -1,5 +1,5 @@
 //! Laws of the lift, which a plan's maker cites.
-ghost use Rattle.lift_laws.specs.Laws.{BindingLifts, BranchCarries, CallsLift, CastableLifts, CheckAdds, ChecksAnswer, ChoiceLifts, ConstantsLift, CostIsWork, CountLifts, DataLifts, DemandsAreSmall, EmptyLifts, ExactlyOneLifts, ExistsLifts, FailuresAreReached, FailuresLift, ItemRulesLift, LiteralLifts, LoopCarries, LoopLifts, NoPartsLift, NoneCarried, NothingLifts, OneMoreCarried, OneOrMoreLifts, OperatorMakes, PartsLift, RulesAreFair, SequenceLifts, TextRulesLift, TreesAreKnown, ValuesWhereNothingFails, VariableLifts, ZeroOrOneLifts};
+ghost use Rattle.lift_laws.specs.Laws.{BindingLifts, BooleansLift, BranchCarries, CallsLift, CastableLifts, CheckAdds, ChecksAnswer, ChoiceLifts, ConnectivesLift, ConstantsLift, CostIsWork, CountLifts, DataLifts, DemandsAreSmall, EmptyLifts, ExactlyOneLifts, ExistsLifts, FailuresAreReached, FailuresLift, GeneralsLift, ItemRulesLift, LiteralLifts, LoopCarries, LoopLifts, NoPartsLift, NoneCarried, NothingLifts, OneMoreCarried, OneOrMoreLifts, OperatorMakes, PairRulesLift, PartsLift, PathsLift, RulesAreFair, SequenceLifts, StepsLift, TextPairsLift, TextRulesLift, TreesAreKnown, UnionsLift, ValuesWhereNothingFails, VariableLifts, ZeroOrOneLifts};
 
 /// Where nothing fails in any iteration, each has a value.
 #[tactic(auto, using(crate::proofs::Cases::values_where_nothing_fails))]
@@ -168,7 +168,7 @@ pub fn count_lifts()
     ensures { CountLifts }
 {}
 
-/// Signs and casts are lifted by a map over the items and a check for each code.
+/// Signs, casts, roots and documents are lifted by a map over the items and a check for each code.
 pub fn item_rules_lift()
     ensures { ItemRulesLift }
 {}
@@ -181,4 +181,44 @@ pub fn castable_lifts()
 /// Texts, their lengths and forms, and names of nodes are lifted by a map over the items and a check.
 pub fn text_rules_lift()
     ensures { TextRulesLift }
+{}
+
+/// Arithmetic, and comparisons of values, of nodes and of texts, are lifted by a map over both items beside each other and a check for each code.
+pub fn pair_rules_lift()
+    ensures { PairRulesLift }
+{}
+
+/// `boolean` and `not` are lifted by a boolean for each iteration and a check.
+pub fn booleans_lift()
+    ensures { BooleansLift }
+{}
+
+/// General comparisons are lifted by a boolean for each iteration and a check for each code.
+pub fn generals_lift()
+    ensures { GeneralsLift }
+{}
+
+/// `or` and `and` are lifted by what they give of both booleans.
+pub fn connectives_lift()
+    ensures { ConnectivesLift }
+{}
+
+/// Functions of two texts are lifted by both operands with the empty text where they are absent.
+pub fn text_pairs_lift()
+    ensures { TextPairsLift }
+{}
+
+/// A step is lifted by the step from all nodes of all iterations at once, positions by document order, and a check.
+pub fn steps_lift()
+    ensures { StepsLift }
+{}
+
+/// A union is lifted by both operands' nodes, each once, by document order, and a check.
+pub fn unions_lift()
+    ensures { UnionsLift }
+{}
+
+/// The result of a path is lifted by its nodes, each once, by document order, or its other items, and a check.
+pub fn paths_lift()
+    ensures { PathsLift }
 {}
