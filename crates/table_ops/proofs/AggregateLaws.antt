@@ -180,7 +180,7 @@ module _ (first old new : List Text) (h : Holdings) (later : take (length first)
         → more ++ places_of (λ c. is_code code (code_in (Of c))) (p + 1) (drop (p + 1) groups) ≡ places_of (λ c. is_code code (code_in (Of c))) 0 groups
     fails_turn code out more b e m was = places_turn (λ c. is_code code (code_in (Of c))) groups d p out more b l (e ∙ ap (λ z. is_code code (code_in z)) same_group) m was
 
-if_ok_on : {E : Type 0} (r : Result (Table Item) E) (x : Table Item) (P : Table Item → Type 0) → P x → IfOk r (λ z. z ≡ x) → IfOk r P
+pub if_ok_on : {E : Type 0} (r : Result (Table Item) E) (x : Table Item) (P : Table Item → Type 0) → P x → IfOk r (λ z. z ≡ x) → IfOk r P
 if_ok_on (Ok a) x P p e = subst P (sym e) p
 if_ok_on (Err b) x P p e = tt
 

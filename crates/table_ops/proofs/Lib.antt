@@ -1,4 +1,5 @@
 pub mod AggregateLaws
+pub mod ApplyLaws
 pub mod ArrangeLaws
 pub mod Attempting
 pub mod CellMoves
@@ -6,11 +7,16 @@ pub mod CellOrders
 pub mod Chaining
 pub mod Columning
 pub mod Combining
+pub mod ContentLaws
+pub mod ContentTrees
 pub mod CountLaws
 pub mod CountedLaws
+pub mod DemandLaws
 pub mod FailLaws
+pub mod FaultLaws
 pub mod FiledLaws
 pub mod FirstRows
+pub mod FitLaws
 pub mod GroupLaws
 pub mod ItemEqual
 pub mod Joining
@@ -22,6 +28,7 @@ pub mod MatchLaws
 pub mod OperatorLaws
 pub mod OrderCounts
 pub mod PairLaws
+pub mod PartLaws
 pub mod PlainLaws
 pub mod RangeLaws
 pub mod ReadLaws

@@ -1,5 +1,5 @@
 //! The operators `aggregate` and `aggregate_fails`: a value over the cells of each group.
-ghost use Rattle.std.specs.Prelude.{◌≡◌, ◌<◌, ◌^◌, ◌++◌, ◌∷◌, [], true, length, map, take, IfOk, OnOk};
+ghost use Rattle.std.specs.Prelude.{◌≡◌, ◌<◌, ◌^◌, ◌++◌, ◌∷◌, [], true, length, map, take, slice_get, Some, IfOk, OnOk};
 ghost use Rattle.xq_base.specs.Pool.{NoRepeats};
 ghost use Rattle.doc_table.specs.Documents.{documents_in};
 ghost use Rattle.doc_table.specs.Given.{trees_given};
@@ -67,8 +67,10 @@ pub fn aggregate(
     left.beside(alloc, &right)
 }
 
-/// Shows that each text of a pool has one number, so that equal numbers are equal texts.
+/// Shows that each text of a pool has one number, so that equal numbers are equal texts, and that the empty
+/// text has number 0.
 pub fn tell_apart(pool: &mut Pool) -> Result<(), Want>
+    ensures first { OnOk result (slice_get pool.new 0 ≡ Some []) }
     ensures different { OnOk result (NoRepeats pool.new) }
     ensures keeps { take (length pool.old) pool.new ≡ pool.old }
 {

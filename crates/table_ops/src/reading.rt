@@ -107,7 +107,7 @@ fn spelled(
 }
 
 /// The atomic value of a cell.
-fn atomize(alloc: Global, cell: Item, store: &Store, pool: &mut Pool) -> Result<Atom, Want>
+pub fn atomize(alloc: Global, cell: Item, store: &Store, pool: &mut Pool) -> Result<Atom, Want>
     requires item { ItemGiven pool.old store.now cell }
     requires trees { trees_given (length pool.old) store.now ≡ true }
     requires names { AreGiven pool.old store.now.docs }
