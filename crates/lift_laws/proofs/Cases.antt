@@ -2,7 +2,7 @@
 use Rattle.std.proofs.Common.{◌≡◌, false, refl, ap, is_none}
 use Rattle.doc_table.specs.Values.{item_of_atom}
 use Rattle.core_meaning.specs.Meaning.{val}
-use Rattle.lift_laws.specs.Laws.{ValuesWhereNothingFails, LiteralLifts, NothingLifts, VariableLifts, SequenceLifts, BindingLifts, LoopLifts, ChoiceLifts, NoPartsLift, PartsLift, CallsLift, FailuresAreReached, CostIsWork, ChecksAnswer, DemandsAreSmall, OperatorMakes, CheckAdds, RulesAreFair, FailuresLift, ConstantsLift, ExistsLifts, EmptyLifts, ZeroOrOneLifts, OneOrMoreLifts, ExactlyOneLifts, DataLifts, CountLifts, ItemRulesLift, CastableLifts, TextRulesLift, BooleansLift, PairRulesLift, TextPairsLift, ConnectivesLift, GeneralsLift, StepsLift, UnionsLift, PathsLift, NoneCarried, OneMoreCarried, LoopCarries, BranchCarries, TreesAreKnown}
+use Rattle.lift_laws.specs.Laws.{ValuesWhereNothingFails, LiteralLifts, NothingLifts, VariableLifts, SequenceLifts, BindingLifts, LoopLifts, ChoiceLifts, NoPartsLift, PartsLift, CallsLift, FailuresAreReached, CostIsWork, ChecksAnswer, DemandsAreSmall, OperatorMakes, StepMakes, CheckAdds, RulesAreFair, FailuresLift, ConstantsLift, ExistsLifts, EmptyLifts, ZeroOrOneLifts, OneOrMoreLifts, ExactlyOneLifts, DataLifts, CountLifts, ItemRulesLift, CastableLifts, TextRulesLift, BooleansLift, PairRulesLift, TextPairsLift, ConnectivesLift, GeneralsLift, StepsLift, UnionsLift, PathsLift, ReverseLifts, ConcatsLift, AggregatesLift, InstancesLift, TreatsLift, ItemConversionsLift, AtomConversionsLift, NoneCarried, OneMoreCarried, LoopCarries, BranchCarries, TreesAreKnown}
 use Rattle.lift_laws.proofs.Picks.{all_mono}
 use Rattle.lift_laws.proofs.Values.{ValueAt, no_faults}
 use Rattle.lift_laws.proofs.PlainCases.{atom_plain, lit_lifts, empty_lifts, var_lifts, seq_lifts, let_lifts}
@@ -10,7 +10,7 @@ use Rattle.lift_laws.proofs.LoopCase.{for_lifts}
 use Rattle.lift_laws.proofs.ChoiceCase.{if_lifts}
 use Rattle.lift_laws.proofs.CallCase.{no_args, more_args, call_lifts}
 use Rattle.lift_laws.proofs.Carrying.{carried_none, carried_more, carries_of, restricts_of}
-use Rattle.lift_laws.proofs.Growing.{adds_makes, check_adds}
+use Rattle.lift_laws.proofs.Growing.{adds_makes, step_makes, check_adds}
 use Rattle.lift_laws.proofs.Known.{knowns_rooted}
 use Rattle.lift_laws.proofs.FairRules.{rule_fair}
 use Rattle.lift_laws.proofs.DataCase.{data_call}
@@ -24,6 +24,10 @@ use Rattle.lift_laws.proofs.ConnectiveCase.{or_call, and_call}
 use Rattle.lift_laws.proofs.GeneralCase.{general_call}
 use Rattle.lift_laws.proofs.WalkCase.{walk_call}
 use Rattle.lift_laws.proofs.NodeSets.{union_call, path_call}
+use Rattle.lift_laws.proofs.ReverseCase.{reverse_call}
+use Rattle.lift_laws.proofs.ConcatCase.{concat_call}
+use Rattle.lift_laws.proofs.AggregateCase.{aggregate_call}
+use Rattle.lift_laws.proofs.TypeCase.{instance_call, treat_call, item_conversion_call, atom_conversion_call}
 use Rattle.lift_laws.proofs.FunctionCases.{failure_call, true_call, false_call, exists_call, empty_call, zero_or_one_call, one_or_more_call, exactly_one_call}
 use Rattle.lift_laws.proofs.Reaching.{cost_is_work, faults_are_fails}
 use Rattle.lift_laws.proofs.FirstFailure.{verdict, demands}
@@ -158,3 +162,27 @@ unions_lift docs s s1 s2 site looped a b t cs m st = union_call docs s s1 s2 sit
 
 pub paths_lift : PathsLift
 paths_lift docs s s1 s2 site looped a t cs m st = path_call docs s s1 s2 site looped a t cs m st
+
+pub reverse_lifts : ReverseLifts
+reverse_lifts docs s s' site looped a t m = reverse_call docs site looped a t m
+
+pub concats_lift : ConcatsLift
+concats_lift docs s s1 s2 site looped ts t cs m st = concat_call docs s s1 s2 site looped ts t cs m st
+
+pub aggregates_lift : AggregatesLift
+aggregates_lift docs s s1 s2 site q looped a t cs m st = aggregate_call docs s s1 s2 site q looped a t cs m st
+
+pub instances_lift : InstancesLift
+instances_lift docs s s' site q occurs looped a t m = instance_call docs s s' site q occurs looped a t m
+
+pub treats_lift : TreatsLift
+treats_lift docs s s1 s2 site q occurs looped a k m h = treat_call docs s s1 s2 site occurs looped a q k m h
+
+pub a_step_makes : StepMakes
+a_step_makes docs texts g g' i axis wanted site offset it v id a = step_makes docs texts g g' i axis wanted site offset it v id a
+
+pub item_conversions_lift : ItemConversionsLift
+item_conversions_lift docs s s1 s2 site occurs looped a k m h = item_conversion_call docs s s1 s2 site occurs looped a k m h
+
+pub atom_conversions_lift : AtomConversionsLift
+atom_conversions_lift docs s s1 s2 site occurs looped a t cs m st = atom_conversion_call docs s s1 s2 site occurs looped a t cs m st

@@ -1,5 +1,6 @@
 -- Calls that say whether an argument can be cast to a kind, from the rows of their operators.
 use Rattle.std.proofs.Common.{◌≡◌, ◌+◌, ◌≤◌, Bool, true, false, cond, not, ◌||◌, List, [], ◌∷◌, ◌++◌, length, map, refl, sym, ap, ◌∙◌, ⊎_elim, arith, length-append}
+use Rattle.std.proofs.Math.Bool.{or-false}
 use Rattle.std.specs.List.{list_any}
 use Rattle.std.proofs.Math.Nat.{max-le}
 use Rattle.xq_base.specs.declared.code.Code.TheVariants as c
@@ -43,12 +44,8 @@ turned : (b : Bool) → not b ≡ cond b false true
 turned true = refl
 turned false = refl
 
-or_false : (b : Bool) → (b || false) ≡ b
-or_false true = refl
-or_false false = refl
-
 one_castable : (kind : AtomKind) (v : Cell) → is_value (cast_items kind true (v ∷ [])) ≡ cond (fails kind v || false) false true
-one_castable kind v = castable_at (cast_items kind true (v ∷ [])) (cast_one kind (atomized v)) ∙ turned (fails kind v) ∙ ap (λ b. cond b false true) (sym (or_false (fails kind v)))
+one_castable kind v = castable_at (cast_items kind true (v ∷ [])) (cast_one kind (atomized v)) ∙ turned (fails kind v) ∙ ap (λ b. cond b false true) (sym (or-false (fails kind v)))
 
 -- the iterations whose argument can't be cast
 abbrev uncastable : AtomKind → Bool → Items → Bool
@@ -60,7 +57,7 @@ castable_is kind true [] = refl
 castable_is kind true (v ∷ []) = one_castable kind v
 castable_is kind true (v ∷ u ∷ vs) = refl
 castable_is kind false [] = refl
-castable_is kind false (v ∷ []) = one_castable kind v ∙ ap (λ b. cond b false true) (sym (or_false (fails kind v || false)))
+castable_is kind false (v ∷ []) = one_castable kind v ∙ ap (λ b. cond b false true) (sym (or-false (fails kind v || false)))
 castable_is kind false (v ∷ u ∷ vs) = refl
 
 uncastable_named : (kind : AtomKind) (optional : Bool) {s : State} (looped a : OpId) (its : List Iter) (g : Iter → List Cell) → Ascends (λ i. i.number) 0 its → Holds s looped single (loop_rows its) → Holds s a three (value_rows g its) → Marks (uncastable_rows kind optional (at s looped).rows (at s a).rows) (λ i. uncastable kind optional (g i)) its

@@ -1,5 +1,6 @@
 -- Calls of `count`, from the rows of their operators: the counted iterations beside the loop, and 0 in the others.
 use Rattle.std.proofs.Common.{◌≡◌, ℕ, ◌+◌, ◌≤◌, Bool, true, false, cond, not, List, [], ◌∷◌, ◌++◌, length, map, refl, sym, ap, ◌∙◌, arith, add-zero, Some, None, nat_eq}
+use Rattle.std.proofs.Math.Bool.{and-true}
 use Rattle.std.specs.List.{filter, flat_map}
 use Rattle.xq_base.specs.declared.fun.Fun.TheVariants as f
 use Rattle.doc_table.specs.NodeRules.{Docs}
@@ -24,7 +25,7 @@ use Rattle.lift_laws.proofs.Sizes.{size_loop, size_cells, total_most}
 use Rattle.lift_laws.proofs.Simple.{is_there, literal_stands, either_stands}
 use Rattle.lift_laws.proofs.Marks.{some, unmarked_stands, fault_in}
 use Rattle.lift_laws.proofs.Operands.{marks_any}
-use Rattle.lift_laws.proofs.Firsts.{key, named, named_there, one_first, and_true}
+use Rattle.lift_laws.proofs.Firsts.{key, named, named_there, one_first}
 use Rattle.lift_laws.proofs.FunctionCases.{quiet_call, some_items}
 
 items_named : (n m k : ℕ) (vs : List Cell) → total (λ r. bit (cell_eq (num n) (key r))) (item_rows m k vs) ≡ cond (nat_eq n m) (length vs) 0
@@ -55,7 +56,7 @@ counted_stands g its l a asc sl sa = record {
       ∙ total-map (λ q. cond (cell_eq (num i.number) (right q)) (w ((num i.number ∷ []) ++ q)) 0) moved table
       ∙ total-map (λ q. cond (cell_eq (num i.number) (right (moved q))) (w ((num i.number ∷ []) ++ moved q)) 0) (λ r. key r ∷ num (many (key r)) ∷ []) (group_rows bare key a)
       ∙ one_first i.number w' [] a
-      ∙ ap (λ b. cond b (w' (num i.number)) 0) (and_true (named i.number a) ∙ named_there i.number a ∙ m)
+      ∙ ap (λ b. cond b (w' (num i.number)) 0) (and-true (named i.number a) ∙ named_there i.number a ∙ m)
       ∙ ap (λ n. cond (some (g i)) (w (num i.number ∷ num i.number ∷ num n ∷ [])) 0)
       (length-filter (λ r. cell_eq (num i.number) (key r)) a
       ∙ sa.at (λ r. bit (cell_eq (num i.number) (key r)))

@@ -58,10 +58,6 @@ one_first n h seen (x ∷ rs) = go (cell_eq (num n) (key x)) refl (has keys_same
         ∙ ap (λ b. cond (named n rs && not (b || named n seen)) (h (num n)) 0) e
         ∙ sym (ap (λ b. cond ((b || named n rs) && not (named n seen)) (h (num n)) 0) e)
 
-pub and_true : (b : Bool) → (b && not false) ≡ b
-and_true true = refl
-and_true false = refl
-
 pub named_there : (n : ℕ) (rs : List Row) → named n rs ≡ is_there (num n) (any_rows rs)
 named_there n [] = refl
 named_there n (r ∷ rs) = ap (λ b. cell_eq (num n) (key r) || b) (named_there n rs)

@@ -1,5 +1,6 @@
 -- Calls of single functions, from the rows of their operators: failures, constants, and tests of how many items an argument has.
 use Rattle.std.proofs.Common.{◌≡◌, ℕ, ◌+◌, ◌≤◌, Bool, true, false, cond, not, ◌||◌, List, [], ◌∷◌, ◌++◌, length, map, refl, sym, ap, ◌∙◌, subst, inl, arith, Option, Some, None, nat_eq, nat_lt, true≢false}
+use Rattle.std.proofs.Math.Bool.{not-not}
 use Rattle.std.specs.List.{filter, flat_map}
 use Rattle.std.proofs.lemmas.Bool.{lt-ltb, le-ltb, ne_eqb}
 use Rattle.xq_base.specs.declared.code.Code.{Code}
@@ -169,7 +170,7 @@ module _ (docs : Docs) where
         holds_keep grown (holds_rows (flat-all _ _ its (all_mono _ _ (λ i (e : g i ≡ list_of (value_in (call_answer docs site r (g ∷ []) i))). ap (item_rows i.number 1) e) its (passed g its z))) hp.0)
     values its (g ∷ g' ∷ gs) tree asc hl hp rooted z = absurd hp.1
 
-    checked_call : CallLifts docs s s2 site r looped (a ∷ []) a
+    pub checked_call : CallLifts docs s s2 site r looped (a ∷ []) a
     checked_call =
         staged_call docs site r looped (a ∷ []) a (the_check ∷ []) (b ∷ []) [] (tests_of test) grown
         (((let i = m.is_in in let n = h.as_many in omega arith), refl, dynamic), tt)
@@ -217,17 +218,13 @@ module _ (docs : Docs) where
   if_not true = refl
   if_not false = refl
 
-  not_twice : (d : Bool) → not (not d) ≡ d
-  not_twice true = refl
-  not_twice false = refl
-
   -- whether an argument has an item, or none
   pub exists_call : {s s' : State} (site : Site) (looped a t : OpId) → Makes s s' t three (truth_rows true (at s looped).rows (any_rows (at s a).rows)) (length (at s looped).rows + length (at s looped).rows + length (at s a).rows) → CallLifts docs s s' site (Apply f.Exists) looped (a ∷ []) t
   exists_call site looped a t m = truth_call site (Apply f.Exists) true looped a t _ (λ g i. some (g i)) _ refl (λ its g asc hl ha. marks_any g its _ asc ha.rows_are) (λ N its g hl ha l. l) (λ g i. ap (λ d. Value (BoolItem d ∷ [])) (some_items (g i) ∙ sym (if_same (some (g i))))) m
 
   pub empty_call : {s s' : State} (site : Site) (looped a t : OpId) → Makes s s' t three (truth_rows false (at s looped).rows (any_rows (at s a).rows)) (length (at s looped).rows + length (at s looped).rows + length (at s a).rows) → CallLifts docs s s' site (Apply f.Empty) looped (a ∷ []) t
   empty_call site looped a t m =
-      truth_call site (Apply f.Empty) false looped a t _ (λ g i. some (g i)) _ refl (λ its g asc hl ha. marks_any g its _ asc ha.rows_are) (λ N its g hl ha l. l) (λ g i. ap (λ d. Value (BoolItem d ∷ [])) (sym (not_twice (is_empty (g i))) ∙ ap not (some_items (g i)) ∙ sym (if_not (some (g i))))) m
+      truth_call site (Apply f.Empty) false looped a t _ (λ g i. some (g i)) _ refl (λ its g asc hl ha. marks_any g its _ asc ha.rows_are) (λ N its g hl ha l. l) (λ g i. ap (λ d. Value (BoolItem d ∷ [])) (sym (not-not (is_empty (g i))) ∙ ap not (some_items (g i)) ∙ sym (if_not (some (g i))))) m
 
   -- how many items an argument has
   two_fails : (code : Code) (vs : Items) → fault_in (cond (nat_lt (length vs) 2) (Value vs) (Refused code)) ≡ cond (has_two vs) (Some code) None

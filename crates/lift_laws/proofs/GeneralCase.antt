@@ -1,5 +1,6 @@
 -- Calls of general comparisons, from the rows of their operators: which iterations have a pair that is true, or that fails.
 use Rattle.std.proofs.Common.{◌≡◌, ◌⊎◌, ℕ, ◌+◌, ◌≤◌, Bool, true, false, cond, ◌&&◌, ◌||◌, List, [], ◌∷◌, ◌++◌, length, map, refl, sym, ap, ◌∙◌, inl, inr, ⊎_elim, arith, Option, Some, None, nat_eq, nat_lt}
+use Rattle.std.proofs.Math.Bool.{and-true, or_assoc}
 use Rattle.std.specs.List.{filter, flat_map, list_any}
 use Rattle.std.proofs.Math.Nat.{max-le}
 use Rattle.xq_base.specs.declared.code.Code.{Code}
@@ -36,7 +37,7 @@ use Rattle.lift_laws.proofs.Picks.{Picked, picks, all_each, all_mono, all-map, a
 use Rattle.lift_laws.proofs.Sizes.{size_cells, size_loop}
 use Rattle.lift_laws.proofs.Simple.{is_there, any_count}
 use Rattle.lift_laws.proofs.Marks.{Marks, marks_is, fault_in, code_self, code_apart}
-use Rattle.lift_laws.proofs.Firsts.{item, key, named, one_first, and_true}
+use Rattle.lift_laws.proofs.Firsts.{item, key, named, one_first}
 use Rattle.lift_laws.proofs.DataCase.{as_atom, data_stands}
 use Rattle.lift_laws.proofs.FunctionCases.{truth_stands}
 use Rattle.lift_laws.proofs.TruthCase.{zero_if, bit_back}
@@ -49,7 +50,7 @@ named_groups : (n : ℕ) (rs : List Row) → is_there (num n) (map (λ l. key l 
 named_groups n rs =
     any_count (λ r. cell_eq (num n) (cell bare single (column 0) r)) (map (λ l. key l ∷ []) (group_rows bare key rs))
     ∙ ap (nat_lt 0) (total-map (λ r. bit (cell_eq (num n) (cell bare single (column 0) r))) (λ l. key l ∷ []) (group_rows bare key rs) ∙ one_first n (λ k. 1) [] rs)
-    ∙ ap (λ b. nat_lt 0 (cond b 1 0)) (and_true (named n rs)) ∙ bit_back (named n rs)
+    ∙ ap (λ b. nat_lt 0 (cond b 1 0)) (and-true (named n rs)) ∙ bit_back (named n rs)
 
 -- the iterations with a pair that passes
 abbrev has_pair : (Cell → Cell → Bool) → List Row → Row → Bool
@@ -105,13 +106,9 @@ any_map : {A B : Type 0} (p : B → Bool) (f : A → B) (xs : List A) → list_a
 any_map p f [] = refl
 any_map p f (x ∷ xs) = ap (λ b. p (f x) || b) (any_map p f xs)
 
-or_assoc : (a b d : Bool) → (a || (b || d)) ≡ ((a || b) || d)
-or_assoc true b d = refl
-or_assoc false b d = refl
-
 any_append : {A : Type 0} (p : A → Bool) (xs ys : List A) → list_any p (xs ++ ys) ≡ (list_any p xs || list_any p ys)
 any_append p [] ys = refl
-any_append p (x ∷ xs) ys = ap (λ b. p x || b) (any_append p xs ys) ∙ or_assoc (p x) (list_any p xs) (list_any p ys)
+any_append p (x ∷ xs) ys = ap (λ b. p x || b) (any_append p xs ys) ∙ sym (or_assoc (p x) (list_any p xs) (list_any p ys))
 
 any_flat : {A B : Type 0} (p : B → Bool) (f : A → List B) (xs : List A) → list_any p (flat_map f xs) ≡ list_any (λ x. list_any p (f x)) xs
 any_flat p f [] = refl

@@ -1,20 +1,25 @@
 -- A plan's state when an operator is handed in: its table is there, and nothing else changes.
 use Rattle.std.proofs.Common.{◌≡◌, ℕ, zero, suc, ◌+◌, ◌<◌, ◌≤◌, true, List, [], ◌∷◌, ◌++◌, length, refl, sym, ap, ◌∙◌, subst, ⊎_elim, arith, append_assoc, length-append, slice_get, slice_index_or, Option, Some, None}
 use Rattle.std.proofs.lemmas.Bool.{ltb-true, and_parts}
+use Rattle.std.proofs.Math.Nat.{max-le}
 use lib.ListN.{get_or-append}
+use Rattle.xq_base.specs.declared.axis.Axis.{Axis}
+use Rattle.xq_base.specs.declared.axis.NodeTest.{NodeTest}
 use Rattle.xq_base.specs.Texts.{Text}
 use Rattle.doc_table.specs.NodeRules.{Docs}
 use Rattle.plan_dag.specs.declared.cols.Col.{Col}
 use Rattle.plan_dag.specs.declared.op.OpId.{OpId}
 use Rattle.plan_dag.specs.declared.op.Op.{Op}
+use Rattle.plan_dag.specs.declared.op.Op.TheVariants as o
 use Rattle.plan_dag.specs.declared.check.Check.{Check}
 use Rattle.plan_dag.specs.Cells.{Rules}
 use Rattle.plan_dag.specs.ItemRules.{Cell, item_rules}
 use Rattle.plan_dag.specs.Meaning.{Table, Graph, no_table, table_at, table_of, table_over, input_table, tables, tables_from, demand_of}
 use Rattle.plan_dag.specs.Schema.{first_input, second_input, stands_before, reads_before, fits, fits_over, fits_columns, input_cols, site_is_new, schemas, schemas_from, columns, valid_from, is_valid}
 use Rattle.plan_dag.specs.Graphs.{Adds, in_graph, with_op, with_check}
-use Rattle.lift_laws.specs.States.{state_of, demands_of, step_at, steps_from, op_id, demand_at, Grows, Makes, Checks}
-use Rattle.lift_laws.proofs.Keeping.{append_none, grows_self, small_none}
+use Rattle.lift_laws.specs.States.{StepAt, at, IsIn, Small, state_of, demands_of, step_at, steps_from, op_id, demand_at, Grows, Makes, Checks}
+use Rattle.lift_laws.specs.Walks.{walk_test, MakesStep}
+use Rattle.lift_laws.proofs.Keeping.{append_none, grows_self, small_none, small_most}
 
 get_length : {A : Type 0} (xs : List A) (k : ℕ) (x : A) → slice_get xs k ≡ Some x → k < length xs
 get_length [] k x e = cc
@@ -134,8 +139,13 @@ module _ (docs : Docs) (texts : List Text) where
         checks = sym (append_none g.checks);
       }
 
-  pub makes_op : (g : Graph) (op : Op) → step_at texts (length g.ops) op ≡ [] → Makes (state_of docs texts g) (state_of docs texts (with_op op g)) (op_id (length g.ops)) (table_of R (tables R g.ops) op).cols (table_of R (tables R g.ops) op).rows (demand_of R op (table_of R (tables R g.ops) op))
-  makes_op g op q =
+  -- its table and its demand
+  abbrev new_id : Graph → OpId
+  new_id g = op_id (length g.ops)
+
+  op_there : (g : Graph) (op : Op) → IsIn (state_of docs texts (with_op op g)) (new_id g) × (at (state_of docs texts (with_op op g)) (new_id g) ≡ table_of R (tables R g.ops) op)
+      × Small (state_of docs texts (with_op op g)) (length (tables R g.ops)) (length (tables R (g.ops ++ op ∷ []))) (demand_of R op (table_of R (tables R g.ops) op))
+  op_there g op =
       let t = table_of R (tables R g.ops) op in
       let more = tables_more R [] g.ops op in
       let m = many g in
@@ -145,21 +155,49 @@ module _ (docs : Docs) (texts : List Text) where
       ap (λ ts. slice_index_or (demands_of R (g.ops ++ op ∷ []) ts) (length g.ops) 0) more
       ∙ ap (λ ds. slice_index_or ds (length g.ops) 0) (demands_more R g.ops (tables R g.ops) op t m)
       ∙ ap (λ n. slice_index_or (demands_of R g.ops (tables R g.ops) ++ demand_of R op t ∷ []) n 0) (sym dl)
-      ∙ last_of (demands_of R g.ops (tables R g.ops)) (demand_of R op t) 0 in
-      record {
-        grows = grows_op g op;
-        is_in = omega arith;
-        is = ap (λ ts. slice_index_or ts (length g.ops) no_table) more ∙ ap (λ n. slice_index_or (tables R g.ops ++ t ∷ []) n no_table) (sym m) ∙ last_of (tables R g.ops) t no_table;
-        small = record {
+      ∙ last_of (demands_of R g.ops (tables R g.ops)) (demand_of R op t) 0 in (
+        omega arith,
+        ap (λ ts. slice_index_or ts (length g.ops) no_table) more ∙ ap (λ n. slice_index_or (tables R g.ops ++ t ∷ []) n no_table) (sym m) ∙ last_of (tables R g.ops) t no_table,
+        record {
           each = λ i a b.
               let e : length g.ops ≡ i = omega arith in
               subst (λ n. demand_at (state_of docs texts (with_op op g)) n ≤ demand_of R op t) e (subst (λ d. d ≤ demand_of R op t) (sym last) (omega arith));
-        };
-        quiet = steps_more texts 0 g.ops op ∙ ap (λ n. steps_from texts 0 g.ops ++ step_at texts n op) (zero_plus (length g.ops)) ∙ ap (λ l. steps_from texts 0 g.ops ++ l) q ∙ append_none (steps_from texts 0 g.ops);
-      }
-    where
-      zero_plus : (n : ℕ) → 0 + n ≡ n
-      zero_plus n = omega arith
+        },
+      )
+
+  zero_plus : (n : ℕ) → 0 + n ≡ n
+  zero_plus n = omega arith
+
+  steps_then : (g : Graph) (op : Op) → steps_from texts 0 (g.ops ++ op ∷ []) ≡ steps_from texts 0 g.ops ++ step_at texts (length g.ops) op
+  steps_then g op = steps_more texts 0 g.ops op ∙ ap (λ n. steps_from texts 0 g.ops ++ step_at texts n op) (zero_plus (length g.ops))
+
+  pub makes_op : (g : Graph) (op : Op) → step_at texts (length g.ops) op ≡ [] → Makes (state_of docs texts g) (state_of docs texts (with_op op g)) (op_id (length g.ops)) (table_of R (tables R g.ops) op).cols (table_of R (tables R g.ops) op).rows (demand_of R op (table_of R (tables R g.ops) op))
+  makes_op g op q =
+      let h = op_there g op in
+      record { grows = grows_op g op; is_in = h.0; is = h.1; small = h.2; quiet = steps_then g op ∙ ap (λ l. steps_from texts 0 g.ops ++ l) q ∙ append_none (steps_from texts 0 g.ops) }
+
+  -- a step is always a new one
+  module _ (g g' : Graph) (i : OpId) (axis : Axis) (wanted : NodeTest) (site offset : ℕ) (it v : Col) (id : OpId) where
+    abbrev step_op : Op
+    step_op = o.Step i axis wanted site offset it v
+
+    abbrev the_step : OpId → StepAt
+    the_step k = record { step = record { site = record { number = site; offset = offset }; axis = axis; test = walk_test texts wanted }; input = i; op = k }
+
+    abbrev table : Table Cell
+    table = table_of R (tables R g.ops) (o.Step i axis wanted site offset it v)
+
+    makes_new : MakesStep (state_of docs texts g) (state_of docs texts (with_op step_op g)) (the_step (op_id (length g.ops))) table.cols table.rows
+    makes_new =
+        let h = op_there g step_op in
+        let few : demand_of R step_op table ≤ length table.rows = max-le (omega arith) (omega arith) in
+        record { grows = grows_op g step_op; is_in = h.0; is = h.1; small = small_most h.2 few; added = steps_then g step_op }
+
+    pub step_makes : Adds g step_op id g' → MakesStep (state_of docs texts g) (state_of docs texts g') (the_step id) table.cols table.rows
+    step_makes a =
+        ⊎_elim (λ h. let z = h.1 in cc) (λ h.
+        subst (λ k. MakesStep (state_of docs texts g) (state_of docs texts k) (the_step id) table.cols table.rows) (sym h.2)
+        (subst (λ k. MakesStep (state_of docs texts g) (state_of docs texts (with_op step_op g)) (the_step (op_id k)) table.cols table.rows) (sym h.1) makes_new)) a.1
 
   -- an operator that was there, or a new one
   pub adds_makes : (g g' : Graph) (op : Op) (id : OpId) → is_valid g.ops ≡ true → step_at texts (length g.ops) op ≡ [] → Adds g op id g' → Makes (state_of docs texts g) (state_of docs texts g') id (table_of R (tables R g.ops) op).cols (table_of R (tables R g.ops) op).rows (demand_of R op (table_of R (tables R g.ops) op))

@@ -44,6 +44,11 @@ pub mod NodePairs
 pub mod NodeOrder
 pub mod WalkCase
 pub mod NodeSets
+pub mod ReverseCase
+pub mod ConcatCase
+pub mod SortedRows
+pub mod AggregateCase
+pub mod TypeCase
 pub mod CallCase
 pub mod Reaching
 pub mod Fairness

@@ -1,5 +1,6 @@
 -- Iterations that rows name, joins by iteration, and the checks of a call's own rule: what every lifted call uses.
 use Rattle.std.proofs.Common.{◌≡◌, ℕ, ◌+◌, ◌≤◌, Bool, true, false, cond, not, ◌&&◌, ◌||◌, List, [], ◌∷◌, ◌++◌, length, map, refl, sym, ap, ◌∙◌, ⊎_elim, arith, add-zero, zero-add, nat_eq, nat_lt, Option, Some, None}
+use Rattle.std.proofs.Math.Bool.{not-not, or_assoc}
 use Rattle.std.specs.List.{filter, flat_map}
 use denote.Enum.Bare.{true_same, false_same}
 use Rattle.xq_base.specs.declared.code.Code.{Code}
@@ -30,14 +31,10 @@ use Rattle.lift_laws.proofs.ChoiceCase.{keep_same}
 pub record Marks (b : List Row) (p : Iter → Bool) (its : List Iter) : Type 0 where
   pub each : AllOf (λ i. is_there (num i.number) b ≡ p i) its
 
-or_assoc : (a b c : Bool) → (a || (b || c)) ≡ ((a || b) || c)
-or_assoc true b c = refl
-or_assoc false b c = refl
-
 there_append : (v : Cell) (xs ys : List Row) → is_there v (beside single xs ys) ≡ (is_there v xs || is_there v ys)
 there_append v [] [] = refl
 there_append v [] (y ∷ ys) = ap (λ b. cell_eq v (cell bare single (column 0) y) || b) (there_append v [] ys)
-there_append v (x ∷ xs) ys = ap (λ b. cell_eq v (cell bare single (column 0) x) || b) (there_append v xs ys) ∙ or_assoc (cell_eq v (cell bare single (column 0) x)) (is_there v xs) (is_there v ys)
+there_append v (x ∷ xs) ys = ap (λ b. cell_eq v (cell bare single (column 0) x) || b) (there_append v xs ys) ∙ sym (or_assoc (cell_eq v (cell bare single (column 0) x)) (is_there v xs) (is_there v ys))
 
 -- a union names those of both
 pub marks_or : {a b : List Row} {p q : Iter → Bool} {its : List Iter} → Marks a p its → Marks b q its → Marks (beside single a b) (λ i. p i || q i) its
@@ -137,14 +134,10 @@ unmarked_stands p its l b sl m =
           ∙ sym (total-map w (λ (i : Iter). num i.number ∷ []) (filter (λ i. not (p i)) its));
     })
 
-twice : (b : Bool) → not (not b) ≡ b
-twice true = refl
-twice false = refl
-
 pub marked_stands : (p : Iter → Bool) (its : List Iter) (l b : List Row) → Ascends (λ i. i.number) 0 its → Same l (loop_rows its) → Marks b p its → Same (other_rows l (less l b)) (loop_rows (filter p its))
 marked_stands p its l b asc sl m =
     same-trans (other_stands (λ i. not (p i)) its l _ asc sl (unmarked_stands p its l b sl m))
-    (same-of (ap loop_rows (keep_same (λ i. not (not (p i))) p its (all_each _ (λ i. twice (p i)) its))))
+    (same-of (ap loop_rows (keep_same (λ i. not (not (p i))) p its (all_each _ (λ i. not-not (p i)) its))))
 
 -- what a table of some iterations says as a check
 pub exact_keep : (p : Iter → Bool) (its : List Iter) (rows : List Row) → Same rows (loop_rows (filter p its)) → (v : Cell → ℕ) → total v (map (cell bare single (column 0)) rows) ≡ total (λ i. cond (p i) (v (num i.number)) 0) its

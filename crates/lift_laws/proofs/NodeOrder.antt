@@ -1,5 +1,6 @@
 -- Nodes of each iteration, in document order: their rows with positions.
 use Rattle.std.proofs.Common.{◌≡◌, ℕ, ◌+◌, Bool, true, false, not, ◌&&◌, ◌||◌, List, [], ◌∷◌, map, refl, ap, ◌∙◌, Some, nat_eq}
+use Rattle.std.proofs.Math.Bool.{and-false}
 use Rattle.std.specs.List.{flat_map}
 use Rattle.xq_base.specs.Texts.{Text}
 use Rattle.doc_table.specs.Identity.{Node, node_eq, node_less}
@@ -43,16 +44,12 @@ tie q r = goes_beside part under q r
 lt_self : (r : Row) → lt r r ≡ false
 lt_self r = rw (part_self node_cols (Some (column 0)) r) (less_self node_cols keys r)
 
-and_none : (b : Bool) → (b && false) ≡ false
-and_none true = refl
-and_none false = refl
-
 goes : (n : ℕ) (x y : Node Text) → node_less x y ≡ true → Goes lt tie (node_row n x) (node_row n y)
 goes n x y h =
     let o : IsOrder (node_less {T = Text}) node_eq = nodes_order in
     let p = cell_eq_self (num n) in
     let yes' : under (node_row n x) (node_row n y) ≡ true = ap (λ z. z || (not (node_less y x) && false)) h in
-    let no' : under (node_row n y) (node_row n x) ≡ false = ap (λ z. z || (not (node_less x y) && false)) (o.less_turn x y h) ∙ and_none (not (node_less x y)) in (
+    let no' : under (node_row n y) (node_row n x) ≡ false = ap (λ z. z || (not (node_less x y) && false)) (o.less_turn x y h) ∙ and-false (not (node_less x y)) in (
       ap (λ z. z && under (node_row n x) (node_row n y)) p ∙ yes',
       ap (λ z. z && under (node_row n y) (node_row n x)) p ∙ no',
       ap (λ z. z && ties bare under (node_row n x) (node_row n y)) p ∙ ap (λ z. not z && not (under (node_row n y) (node_row n x))) yes',

@@ -1,5 +1,6 @@
 -- Calls of unions, and of the results of paths, from the rows of their operators: nodes each once, by document order.
-use Rattle.std.proofs.Common.{◌≡◌, ℕ, ◌+◌, ◌≤◌, Bool, true, false, cond, not, ◌&&◌, ◌||◌, List, [], ◌∷◌, ◌++◌, length, map, refl, sym, ap, ◌∙◌, arith, Option, Some, None, nat_lt, true≢false}
+use Rattle.std.proofs.Common.{◌≡◌, ℕ, ◌+◌, Bool, true, false, cond, not, ◌&&◌, List, [], ◌∷◌, ◌++◌, length, map, refl, sym, ap, ◌∙◌, arith, Option, Some, None, true≢false}
+use Rattle.std.proofs.Math.Bool.{and-true}
 use Rattle.std.specs.List.{filter, flat_map, list_any}
 use Rattle.std.specs.Cmp.{IsEquivalence}
 use Rattle.std.proofs.lemmas.Bool.{and_parts, lt-ltb}
@@ -17,27 +18,26 @@ use Rattle.doc_table.proofs.StrictOrders.{nodes_order}
 use Rattle.plan_dag.specs.declared.op.OpId.{OpId}
 use Rattle.plan_dag.specs.declared.check.Check.{Check}
 use Rattle.plan_dag.specs.Cells.{given, code_in}
-use Rattle.plan_dag.specs.Orders.{firsts}
 use Rattle.plan_dag.specs.ItemRules.{Cell, cell_eq}
-use Rattle.plan_dag.specs.Rows.{all_same, first_rows, is_code}
+use Rattle.plan_dag.specs.Rows.{first_rows, is_code}
 use Rattle.plan_dag.specs.Meaning.{cell}
 use Rattle.plan_dag.specs.Meaning.{cells as cells_at}
 use Rattle.core_meaning.specs.Expr.{Site, Apply}
 use Rattle.core_meaning.specs.Meaning.{value_in}
 use Rattle.lift_laws.specs.Sums.{total, AllOf, Ascends, Same}
-use Rattle.lift_laws.specs.Iterations.{Row, Iter, num, item_rows, value_rows, loop_rows}
+use Rattle.lift_laws.specs.Iterations.{Row, Iter, num, item_rows, value_rows}
 use Rattle.lift_laws.specs.Bulk.{list_of}
-use Rattle.lift_laws.specs.States.{State, at, Makes, column, three, single}
+use Rattle.lift_laws.specs.States.{State, at, Makes, column, three}
 use Rattle.lift_laws.specs.Shapes.{bare, pair, pick, project, four, beside}
 use Rattle.lift_laws.specs.Stages.{Stages}
 use Rattle.lift_laws.specs.Walks.{node_cols, each_once_rows, stray_rows, union_rows, union_marks, named_nodes, path_rows, path_marks}
 use Rattle.lift_laws.specs.Lifting.{Rooted, CallLifts}
 use Rattle.lift_laws.proofs.Multi.{same-of, same-trans, same-map, same-flat, same-keep, same-append, same-split}
-use Rattle.lift_laws.proofs.Picks.{all_each, all_mono, all-append, all-map, flat-all, flat-flat, map-append, map-flat, map-map}
+use Rattle.lift_laws.proofs.Picks.{all_each, all_mono, all-append, all-map, flat-all, flat-flat, map-append, map-flat}
 use Rattle.lift_laws.proofs.Values.{all_two}
 use Rattle.lift_laws.proofs.Simple.{same_items}
 use Rattle.lift_laws.proofs.Keeping.{append_none}
-use Rattle.lift_laws.proofs.Marks.{Marks, marks_is, marks_and, marks_rows, some, fault_in, code_self}
+use Rattle.lift_laws.proofs.Marks.{Marks, marks_and, marks_rows, some, fault_in, code_self}
 use Rattle.lift_laws.proofs.Operands.{keep_flat}
 use Rattle.lift_laws.proofs.Stagings.{stages_one, stages_two}
 use Rattle.lift_laws.proofs.ItemCase.{fails_at, marks_fail}
@@ -58,10 +58,6 @@ node_in r = cell bare node_cols (column 2) r
 abbrev row_eq : Row → Row → Bool
 row_eq q r = cell_eq (number_in q) (number_in r) && (cell_eq (node_in q) (node_in r) && true)
 
-and_true : (b : Bool) → (b && true) ≡ b
-and_true true = refl
-and_true false = refl
-
 rows_equal : IsEquivalence row_eq
 rows_equal = record {
   refl = λ q. ap (λ b. b && (cell_eq (node_in q) (node_in q) && true)) (cells_equal.refl (number_in q)) ∙ ap (λ b. b && true) (cells_equal.refl (node_in q));
@@ -69,7 +65,7 @@ rows_equal = record {
   congr = λ q r x e.
       let k = and_parts (cell_eq (number_in q) (number_in r)) (cell_eq (node_in q) (node_in r) && true) e in
       ap (λ b. b && (cell_eq (node_in q) (node_in x) && true)) (cells_equal.congr (number_in q) (number_in r) (number_in x) k.0)
-      ∙ ap (λ b. cell_eq (number_in r) (number_in x) && (b && true)) (cells_equal.congr (node_in q) (node_in r) (node_in x) (sym (and_true (cell_eq (node_in q) (node_in r))) ∙ k.1));
+      ∙ ap (λ b. cell_eq (number_in r) (number_in x) && (b && true)) (cells_equal.congr (node_in q) (node_in r) (node_in x) (sym (and-true (cell_eq (node_in q) (node_in r))) ∙ k.1));
 }
 
 abbrev canon : (TreeId → Option (Tree Text)) → Row → Row
@@ -79,7 +75,7 @@ canon_same : (tree : TreeId → Option (Tree Text)) (q r : Row) → row_eq q r �
 canon_same tree q r e =
     let k = and_parts (cell_eq (number_in q) (number_in r)) (cell_eq (node_in q) (node_in r) && true) e in
     ap (λ v. v ∷ node_with tree (node_in q) ∷ []) (number_same (number_in q) (number_in r) k.0)
-    ∙ ap (λ v. number_of (number_in r) ∷ v ∷ []) (node_same tree (node_in q) (node_in r) (sym (and_true (cell_eq (node_in q) (node_in r))) ∙ k.1))
+    ∙ ap (λ v. number_of (number_in r) ∷ v ∷ []) (node_same tree (node_in q) (node_in r) (sym (and-true (cell_eq (node_in q) (node_in r))) ∙ k.1))
 
 known_rows : (tree : TreeId → Option (Tree Text)) (ms : List (Node Text)) → AllOf (λ (m : Node Text). Rooted tree (NodeItem m)) ms → AllOf (λ (m : Node Text). (n : ℕ) → canon tree (node_row n m) ≡ node_row n m) ms
 known_rows tree [] h = tt
@@ -91,7 +87,7 @@ each_once_stands : (tree : TreeId → Option (Tree Text)) (ns : Iter → List (N
 each_once_stands tree ns its rs asc s rooted =
     order_stands (λ i. in_document_order (ns i)) its _ asc (λ i. once_sorted node_less node_eq nodes_order (ns i))
     (found_stands row_eq rows_equal node_row (canon tree) (canon_same tree) (λ r n. cell_eq (number_in r) (num n)) (λ r m n. head_one (number_in r) m n) (λ r m. cell_eq (node_in r) (NodeItem m)) (λ r ms. tail_count (node_in r) ms)
-    (λ r n m. ap (λ b. cell_eq (number_in r) (num n) && b) (and_true (cell_eq (node_in r) (NodeItem m)))) ns its asc rs (first_rows bare (cells_at bare node_cols node_cols) rs) s
+    (λ r n m. ap (λ b. cell_eq (number_in r) (num n) && b) (and-true (cell_eq (node_in r) (NodeItem m)))) ns its asc rs (first_rows bare (cells_at bare node_cols node_cols) rs) s
     (λ r. firsts_count row_eq rows_equal r [] rs) (λ P. firsts_all (λ q r. true) row_eq P [] rs)
     (all_mono _ _ (λ i (k : AllOf (λ (m : Node Text). Rooted tree (NodeItem m)) (ns i)). known_rows tree (ns i) k) its rooted))
 
@@ -198,10 +194,10 @@ numbers_at n k (TextItem t ∷ vs) = numbers_at n (k + 1) vs
 numbers_at n k (UntypedItem t ∷ vs) = numbers_at n (k + 1) vs
 numbers_at n k (BoolItem b ∷ vs) = numbers_at n (k + 1) vs
 
-abbrev has_node : ℕ → Items → Bool
+abbrev pub has_node : ℕ → Items → Bool
 has_node n vs = some (map (λ (m : Node Text). num n ∷ []) (nodes_in vs))
 
-nodes_there : (n : ℕ) (vs : Items) → has_node n vs ≡ not (no_node vs)
+pub nodes_there : (n : ℕ) (vs : Items) → has_node n vs ≡ not (no_node vs)
 nodes_there n [] = refl
 nodes_there n (NodeItem m ∷ vs) = lt-ltb 0 (1 + total (λ (r : Row). 1) (map (λ (q : Node Text). num n ∷ []) (nodes_in vs))) (omega arith)
 nodes_there n (IntItem z ∷ vs) = nodes_there n vs
@@ -209,7 +205,7 @@ nodes_there n (TextItem t ∷ vs) = nodes_there n vs
 nodes_there n (UntypedItem t ∷ vs) = nodes_there n vs
 nodes_there n (BoolItem b ∷ vs) = nodes_there n vs
 
-marks_nodes : (h : Iter → List Cell) (its : List Iter) (a : List Row) → Ascends (λ i. i.number) 0 its → Same a (value_rows h its) → Marks (project four (pair 0 0 ∷ []) (named_nodes a)) (λ i. has_node i.number (h i)) its
+pub marks_nodes : (h : Iter → List Cell) (its : List Iter) (a : List Row) → Ascends (λ i. i.number) 0 its → Same a (value_rows h its) → Marks (project four (pair 0 0 ∷ []) (named_nodes a)) (λ i. has_node i.number (h i)) its
 marks_nodes h its a asc sa =
     marks_rows (λ i. map (λ (m : Node Text). num i.number ∷ []) (nodes_in (h i))) its _ asc (λ i. all-map _ (λ (m : Node Text). num i.number ∷ []) (nodes_in (h i)) (all_each _ (λ m. refl) (nodes_in (h i))))
     (same-trans (same-map (λ r. pick four (pair 0 0 ∷ []) r) (same-flat with_name sa))

@@ -1,6 +1,7 @@
 -- Calls of functions of two operands of at most one item each, from the rows of their operators: a check for each code, and a map
 -- over both items beside each other.
 use Rattle.std.proofs.Common.{◌≡◌, ℕ, ◌+◌, ◌≤◌, Bool, true, false, cond, not, ◌&&◌, ◌||◌, List, [], ◌∷◌, length, map, refl, sym, ap, ◌∙◌, subst, arith, Option, Some, None}
+use Rattle.std.proofs.Math.Bool.{or-false}
 use Rattle.std.specs.List.{list_any}
 use Rattle.std.proofs.Math.Nat.{max-le}
 use Rattle.xq_base.specs.declared.code.Code.{Code}
@@ -125,7 +126,7 @@ module _ (docs : Docs) (s s1 s2 : State) (site : Site) (looped a b t : OpId) (cs
       (λ h k i. first (h i) (k i) ∙ ap (cond (unfit f e (x (h i)) (y (k i))) (Some (code_of e))) (sym (tests_are f es L A' B' (λ i. x (h i)) (λ i. y (k i)) i)))
       marks few_mids (λ its h k asc sl sa sb tree rooted rooted' calm. stand its h k asc sl sa sb)
 
-code_fault : (z : Answer Items) → code_in (outcome_of z) ≡ fault_in z
+pub code_fault : (z : Answer Items) → code_in (outcome_of z) ≡ fault_in z
 code_fault (Value []) = refl
 code_fault (Value (v ∷ [])) = refl
 code_fault (Value (v ∷ u ∷ vs)) = refl
@@ -138,15 +139,11 @@ OneAtMost (Value (v ∷ [])) = Unit {0}
 OneAtMost (Value (v ∷ u ∷ vs)) = ⊥
 OneAtMost (Refused d) = Unit {0}
 
-shown : (z : Answer Items) → OneAtMost z → given (outcome_of z) ≡ list_of (value_in z)
+pub shown : (z : Answer Items) → OneAtMost z → given (outcome_of z) ≡ list_of (value_in z)
 shown (Value []) h = refl
 shown (Value (v ∷ [])) h = refl
 shown (Value (v ∷ u ∷ vs)) h = absurd h
 shown (Refused d) h = refl
-
-or_false : (b : Bool) → (b || false) ≡ b
-or_false true = refl
-or_false false = refl
 
 same_both : {A : Type 0} (b : Bool) (x : A) → cond b x x ≡ x
 same_both true x = refl
@@ -180,7 +177,7 @@ module _ {X : Type 0} (R : Items → Answer X) (K : X × X → Answer Items) (f 
 
   own_is : (d : Code) → ((p : X × X) → is_code d (fault_in (K p)) ≡ false) → (o : Option Cell) → list_any (own_hit f d) (few o) ≡ is_code d (code_at o)
   own_is d q None = sym (ap (λ z. is_code d (fault_in z)) none_is)
-  own_is d q (Some u) = or_false (own_hit f d u) ∙ ap (λ x. is_code d (code_in x)) (outcome u u) ∙ ap (is_code d) (code_fault (answer (u ∷ []) (u ∷ []))) ∙ same (R (u ∷ []))
+  own_is d q (Some u) = or-false (own_hit f d u) ∙ ap (λ x. is_code d (code_in x)) (outcome u u) ∙ ap (is_code d) (code_fault (answer (u ∷ []) (u ∷ []))) ∙ same (R (u ∷ []))
     where
       same : (x : Answer X) → is_code d (fault_in (then_rule (both_of x x) K)) ≡ is_code d (fault_in x)
       same (Value x) = q (x, x)

@@ -1,5 +1,6 @@
 -- Codes that two operands have each by itself or both together, and which of them comes first.
 use Rattle.std.proofs.Common.{◌≡◌, ◌<◌, ◌⊎◌, Bool, true, false, cond, ◌||◌, List, [], ◌∷◌, map, refl, sym, ap, ◌∙◌, subst, inr, ⊎_elim, arith, Option, Some, None, true≢false}
+use Rattle.std.proofs.Math.Bool.{or-true}
 use Rattle.std.proofs.lemmas.Bool.{lt-ltb, le-ltb}
 use Rattle.xq_base.specs.declared.code.Code.{Code}
 use Rattle.xq_base.specs.Answers.{Answer, Value, Fault as Refused, check_rank, earlier, then_rule, both_of}
@@ -81,7 +82,7 @@ first_by x y p [] = None
 first_by x y p (OfEach d ∷ es) = cond (is_code d x || is_code d y) (Some d) (first_by x y p es)
 first_by x y p (OfBoth d ∷ es) = cond (is_code d p) (Some d) (first_by x y p es)
 
-alone : (p : Option Code) (es : List PairCode) → AmongBoth p es → first_by None None p es ≡ p
+pub alone : (p : Option Code) (es : List PairCode) → AmongBoth p es → first_by None None p es ≡ p
 alone p [] h = sym h
 alone p (OfEach d ∷ es) h = alone p es h
 alone p (OfBoth d ∷ es) h = go (is_code d p) refl (λ k. alone p es k)
@@ -89,10 +90,6 @@ alone p (OfBoth d ∷ es) h = go (is_code d p) refl (λ k. alone p es k)
     go : (b : Bool) → is_code d p ≡ b → (AmongBoth p es → first_by None None p es ≡ p) → cond (is_code d p) (Some d) (first_by None None p es) ≡ p
     go true e r = ap (λ b. cond b (Some d) (first_by None None p es)) e ∙ sym (is_some d p e)
     go false e r = ap (λ b. cond b (Some d) (first_by None None p es)) e ∙ ⊎_elim (λ q. absurd (true≢false (sym (ap (is_code d) q ∙ code_self d) ∙ e))) r h
-
-or_true : (b : Bool) → (b || true) ≡ true
-or_true true = refl
-or_true false = refl
 
 pub first_is : (x y p : Option Code) (es : List PairCode) → Ranked (map code_of es) → AmongOwn x es → AmongOwn y es → (x ≡ None → y ≡ None → AmongBoth p es) → first_by x y p es ≡ or_else (sooner x y) p
 first_is x y p [] r hx hy hp = sym (ap (λ z. or_else (sooner z y) p) hx ∙ ap (λ z. or_else z p) hy ∙ hp hx hy)
@@ -112,7 +109,7 @@ first_is x y p (OfEach d ∷ es) r hx hy hp = ⊎_elim left (λ kx. ⊎_elim (ri
     right : AmongOwn x es → y ≡ Some d → cond (is_code d x || is_code d y) (Some d) (first_by x y p es) ≡ or_else (sooner x y) p
     right kx q =
         ap (λ z. cond (is_code d x || is_code d z) (Some d) (first_by x y p es)) q ∙ ap (λ b. cond (is_code d x || b) (Some d) (first_by x y p es)) (code_self d)
-        ∙ ap (λ b. cond b (Some d) (first_by x y p es)) (or_true (is_code d x))
+        ∙ ap (λ b. cond b (Some d) (first_by x y p es)) (or-true (is_code d x))
         ∙ sym (ap (λ z. or_else (sooner x z) p) q ∙ ap (λ z. or_else z p) (first_right d x (later_own d x es r.0 kx)))
 
     neither : AmongOwn x es → AmongOwn y es → first_by x y p es ≡ or_else (sooner x y) p → cond (is_code d x || is_code d y) (Some d) (first_by x y p es) ≡ or_else (sooner x y) p

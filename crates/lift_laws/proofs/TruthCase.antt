@@ -1,5 +1,6 @@
 -- Calls of `boolean` and `not`, from the rows of their operators: a boolean by whether the first item is true, and a check.
 use Rattle.std.proofs.Common.{◌≡◌, ℕ, ◌+◌, ◌≤◌, Bool, true, false, cond, not, ◌&&◌, ◌||◌, List, [], ◌∷◌, length, map, refl, sym, ap, ◌∙◌, arith, add-zero, Some, None, nat_eq, nat_lt}
+use Rattle.std.proofs.Math.Bool.{and-true}
 use Rattle.std.specs.List.{filter, flat_map, list_any}
 use Rattle.std.proofs.Math.Nat.{max-le}
 use Rattle.xq_base.specs.declared.code.Code.TheVariants as c
@@ -34,7 +35,7 @@ use Rattle.lift_laws.proofs.Sizes.{size_cells, size_loop}
 use Rattle.lift_laws.proofs.Simple.{is_there, any_count}
 use Rattle.lift_laws.proofs.Marks.{Marks, marks_and, some, fault_in, code_self}
 use Rattle.lift_laws.proofs.Operands.{heads, heads_stand, marks_any, marks_second, has_two}
-use Rattle.lift_laws.proofs.Firsts.{item, key, named, named_there, one_first, and_true}
+use Rattle.lift_laws.proofs.Firsts.{item, key, named, named_there, one_first}
 use Rattle.lift_laws.proofs.ItemCase.{fails_at, marks_fail}
 use Rattle.lift_laws.proofs.FunctionCases.{truth_stands}
 use Rattle.lift_laws.proofs.Stagings.{stages_one}
@@ -98,7 +99,7 @@ marks_true h its a asc sa =
           ∙ total-flat (λ r. cond (passed r) (bit (cell_eq (num i.number) (cell bare single (column 0) (two_cols r)))) 0) made (group_rows bare key rs)
           ∙ total-ext _ _ (group_rows bare key rs) (λ r. pulled n (key r) (given (group_value bare g.Ebv key item rs r)))
           ∙ one_first n (truths rs) [] rs
-          ∙ ap (λ b. cond b (truths rs (num n)) 0) (and_true (named n rs) ∙ named_there n rs ∙ m))
+          ∙ ap (λ b. cond b (truths rs (num n)) 0) (and-true (named n rs) ∙ named_there n rs ∙ m))
           ∙ head_at rs n (h i) (λ w.
           total-keep w (λ r. cell_eq (num n) (key r)) rs ∙ sh.at (λ r. cond (cell_eq (num n) (key r)) (w r) 0)
           ∙ total-flat (λ r. cond (cell_eq (num n) (key r)) (w r) 0) (λ j. item_rows j.number 1 (heads (h j))) its

@@ -24,7 +24,8 @@ use Rattle.lift_laws.specs.States.{column, op_id, three, state_of, at, demand_at
 use Rattle.lift_laws.specs.Shapes.{turn_map, seq_rows, back_rows, chosen_rows, restrict_rows}
 use Rattle.lift_laws.specs.Stages.{boolean_marks, boolean_rows}
 use Rattle.lift_laws.specs.Pairs.{Quotients, pair_codes, pair_marks, pair_value_rows, filled_rows, general_marks, general_rows}
-use Rattle.lift_laws.specs.Walks.{ordered_rows, walk_rows}
+use Rattle.lift_laws.specs.Walks.{ordered_rows, walk_rows, union_rows, path_rows, path_marks}
+use Rattle.lift_laws.specs.Sequences.{concat_rows, reversed_rows}
 
 abbrev root : Iter
 root = record { number = 1; env = no_variables; vector = [] }
@@ -143,6 +144,24 @@ in_order = refl
 -- a step to itself finds each node once in an iteration, and from an item that is no node nothing
 found_once : walk_rows [] x.SelfNode n.Any ((num 1 ∷ num 1 ∷ node 2 ∷ []) ∷ (num 2 ∷ num 1 ∷ node 2 ∷ []) ∷ (num 1 ∷ num 2 ∷ node 2 ∷ []) ∷ (num 1 ∷ num 3 ∷ num 5 ∷ []) ∷ []) ≡ (num 1 ∷ node 2 ∷ []) ∷ (num 2 ∷ node 2 ∷ []) ∷ []
 found_once = refl
+
+-- a union has each node once
+union_once : union_rows ((num 1 ∷ num 1 ∷ node 2 ∷ []) ∷ []) ((num 1 ∷ num 1 ∷ node 0 ∷ []) ∷ (num 1 ∷ num 2 ∷ node 2 ∷ []) ∷ []) ≡ (num 1 ∷ num 2 ∷ node 2 ∷ []) ∷ (num 1 ∷ num 1 ∷ node 0 ∷ []) ∷ []
+union_once = refl
+
+-- a path ends in nodes, or in other items as they stand, and not in both
+path_ends : path_rows ((num 1 ∷ num 1 ∷ node 2 ∷ []) ∷ (num 1 ∷ num 2 ∷ node 2 ∷ []) ∷ (num 2 ∷ num 2 ∷ num 7 ∷ []) ∷ (num 2 ∷ num 1 ∷ num 8 ∷ []) ∷ []) ≡ (num 1 ∷ num 1 ∷ node 2 ∷ []) ∷ (num 2 ∷ num 2 ∷ num 7 ∷ []) ∷ (num 2 ∷ num 1 ∷ num 8 ∷ []) ∷ []
+path_ends = refl
+
+mixed_path : map (λ m. m.1) (path_marks ((num 1 ∷ num 1 ∷ node 2 ∷ []) ∷ (num 2 ∷ num 1 ∷ node 2 ∷ []) ∷ (num 2 ∷ num 2 ∷ num 7 ∷ []) ∷ (num 3 ∷ num 1 ∷ num 8 ∷ []) ∷ [])) ≡ ((num 2 ∷ []) ∷ []) ∷ []
+mixed_path = refl
+
+-- texts one after the other, of which one is absent
+texts_joined : concat_rows ((num 1 ∷ []) ∷ []) (((num 1 ∷ num 1 ∷ TextItem (7 ∷ []) ∷ []) ∷ []) ∷ [] ∷ ((num 1 ∷ num 1 ∷ TextItem (8 ∷ []) ∷ []) ∷ []) ∷ []) ≡ (num 1 ∷ num 1 ∷ TextItem (7 ∷ 8 ∷ []) ∷ []) ∷ []
+texts_joined = refl
+
+turned_round : reversed_rows ((num 1 ∷ num 2 ∷ num 7 ∷ []) ∷ (num 1 ∷ num 1 ∷ num 8 ∷ []) ∷ []) ≡ (num 1 ∷ num 1 ∷ num 7 ∷ []) ∷ (num 1 ∷ num 2 ∷ num 8 ∷ []) ∷ []
+turned_round = refl
 
 -- the plan of the literal 5: a loop of one iteration, the position, the item
 five : Graph

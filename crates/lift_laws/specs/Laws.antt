@@ -15,14 +15,17 @@ use Rattle.doc_table.specs.Items.{TextItem, BoolItem}
 use Rattle.doc_table.specs.Values.{Items, item_of_atom}
 use Rattle.doc_table.specs.NodeRules.{Docs}
 use Rattle.plan_dag.specs.declared.op.OpId.{OpId}
+use Rattle.plan_dag.specs.declared.cols.Col.{Col}
 use Rattle.plan_dag.specs.declared.op.Op.{Op}
+use Rattle.plan_dag.specs.declared.op.Op.TheVariants as o
 use Rattle.plan_dag.specs.declared.check.Check.{Check}
 use Rattle.plan_dag.specs.Cells.{Rules}
 use Rattle.plan_dag.specs.ItemRules.{Cell, item_rules}
 use Rattle.plan_dag.specs.Meaning.{Graph, table_of, tables, demand_of, answer_from}
 use Rattle.plan_dag.specs.Schema.{is_valid}
 use Rattle.plan_dag.specs.Graphs.{Adds, in_graph, with_check}
-use Rattle.core_meaning.specs.Expr.{Site, Rule, Apply, Walk, CastableTo, FailWith, Expr, Exprs, Lit, Empty, Var, Seq, Let, For, If, Call, no_more, one_more}
+use Rattle.core_meaning.specs.Expr.{Site, Rule, Apply, Walk, IsOf, TreatAs, ConvertTo, CastableTo, FailWith, Expr, Exprs, Lit, Empty, Var, Seq, Let, For, If, Call, no_more, one_more}
+use Rattle.core_meaning.specs.declared.node.Occurs.{Occurs}
 use Rattle.core_meaning.specs.declared.node.StepFrom.{StepFrom}
 use Rattle.core_meaning.specs.Rules.{no_node_code}
 use Rattle.core_meaning.specs.Meaning.{val}
@@ -40,6 +43,9 @@ use Rattle.lift_laws.specs.Carried.{set_var, CarryOne, CarriedFor, Carries, Rest
 use Rattle.lift_laws.specs.Stages.{Stages, ItemRule, rule_of, fun_of, codes_of, item_marks, item_marks_in, item_most, item_most_in, uncastable_rows, castable_most, TextRule, text_fun, absent_item, text_value_rows, boolean_fun, boolean_marks, boolean_rows, boolean_most}
 use Rattle.lift_laws.specs.Pairs.{PairRule, pair_fun, OfEach, TextPairRule, text_pair_fun, filled_rows, pair_codes, pair_marks, pair_most, pair_value_rows, general_fun, general_marks, general_rows, general_most}
 use Rattle.lift_laws.specs.Walks.{node_cols, ordered_rows, walk_rows, walk_test, MakesStep, union_rows, union_marks, path_rows, path_marks}
+use Rattle.lift_laws.specs.Sequences.{rows_at, concat_rows, concat_marks, concat_most, reversed_rows}
+use Rattle.lift_laws.specs.Aggregates.{AggRule, agg_fun, agg_value_rows, agg_marks, agg_most}
+use Rattle.lift_laws.specs.TypeTests.{AtomTest, Anything, Atomic, sequence_test, other_type_rows, count_marks_of}
 use Rattle.lift_laws.specs.Verdicts.{Verdict, SmallFrom}
 
 -- where nothing fails in any iteration, each has a value
@@ -241,6 +247,48 @@ PathsLift = (docs : Docs) (s s1 s2 : State) (site : Site) (looped a t : OpId) (c
     → Stages site (length (at s looped).rows + length (at s a).rows) s1 s2 (at s looped).rows (path_marks (at s a).rows) cs
     → CallLifts docs s s2 site (Apply f.PathOrder) looped (a ∷ []) t
 
+-- `instance of` a type of atomic values or of any items: a boolean by whether the argument has another type
+abbrev pub InstancesLift : Type 0
+InstancesLift = (docs : Docs) (s s' : State) (site : Site) (q : AtomTest) (occurs : Occurs) (looped a t : OpId)
+    → Makes s s' t three (truth_rows false (at s looped).rows (other_type_rows q occurs (at s looped).rows (at s a).rows)) (length (at s looped).rows + length (at s looped).rows + length (at s a).rows)
+    → CallLifts docs s s' site (IsOf (sequence_test q occurs)) looped (a ∷ []) t
+
+-- `treat as` such a type: a check of the iterations whose argument has another one, and the argument's table
+abbrev pub TreatsLift : Type 0
+TreatsLift = (docs : Docs) (s s1 s2 : State) (site : Site) (q : AtomTest) (occurs : Occurs) (looped a k : OpId)
+    → Makes s s1 k single (named_rows (at s looped).rows (other_type_rows q occurs (at s looped).rows (at s a).rows)) (length (at s looped).rows + length (at s a).rows)
+    → Checks s1 s2 (record { op = k; code = c.XPDY0050; offset = site.offset }) → CallLifts docs s s2 site (TreatAs (sequence_test q occurs)) looped (a ∷ []) a
+
+-- conversions: to a type of any items a check and the argument's table, to one of any atomic values a check and a map
+abbrev pub ItemConversionsLift : Type 0
+ItemConversionsLift = (docs : Docs) (s s1 s2 : State) (site : Site) (occurs : Occurs) (looped a k : OpId)
+    → Makes s s1 k single (named_rows (at s looped).rows (other_type_rows Anything occurs (at s looped).rows (at s a).rows)) (length (at s looped).rows + length (at s a).rows)
+    → Checks s1 s2 (record { op = k; code = c.XPTY0004; offset = site.offset }) → CallLifts docs s s2 site (ConvertTo (sequence_test Anything occurs)) looped (a ∷ []) a
+
+abbrev pub AtomConversionsLift : Type 0
+AtomConversionsLift = (docs : Docs) (s s1 s2 : State) (site : Site) (occurs : Occurs) (looped a t : OpId) (cs : List Check)
+    → Makes s s1 t three (data_rows (at s a).rows) (length (at s a).rows)
+    → Stages site (length (at s looped).rows + length (at s a).rows) s1 s2 (at s looped).rows (count_marks_of occurs (at s looped).rows (at s a).rows) cs
+    → CallLifts docs s s2 site (ConvertTo (sequence_test Atomic occurs)) looped (a ∷ []) t
+
+-- `sum`, `min` and `max`: what is given of each iteration's items in order, and a check for each code
+abbrev pub AggregatesLift : Type 0
+AggregatesLift = (docs : Docs) (s s1 s2 : State) (site : Site) (q : AggRule) (looped a t : OpId) (cs : List Check)
+    → Makes s s1 t three (agg_value_rows q (at s looped).rows (at s a).rows) (agg_most q (at s looped).rows (at s a).rows)
+    → Stages site (agg_most q (at s looped).rows (at s a).rows) s1 s2 (at s looped).rows (agg_marks q (at s a).rows) cs
+    → CallLifts docs s s2 site (Apply (agg_fun q)) looped (a ∷ []) t
+
+-- `concat`: the texts of any number of arguments from the last one on, and a check of those with a second item
+abbrev pub ConcatsLift : Type 0
+ConcatsLift = (docs : Docs) (s s1 s2 : State) (site : Site) (looped : OpId) (ts : List OpId) (t : OpId) (cs : List Check)
+    → Makes s s1 t three (concat_rows (at s looped).rows (rows_at s ts)) (concat_most (at s looped).rows (rows_at s ts))
+    → Stages site (concat_most (at s looped).rows (rows_at s ts)) s1 s2 (at s looped).rows (concat_marks (at s looped).rows (rows_at s ts)) cs
+    → CallLifts docs s s2 site (Apply f.Concat) looped ts t
+
+-- `reverse`: the items with new positions, from the last one on
+abbrev pub ReverseLifts : Type 0
+ReverseLifts = (docs : Docs) (s s' : State) (site : Site) (looped a t : OpId) → Makes s s' t three (reversed_rows (at s a).rows) (length (at s a).rows) → CallLifts docs s s' site (Apply f.Reverse) looped (a ∷ []) t
+
 -- the failures of all iterations at once are those of the reached evaluations
 abbrev pub FailuresAreReached : Type 0
 FailuresAreReached = (docs : Docs) (e : Expr) (its : List Iter) → Same (map (λ (f : Fault). f.failure) (faults docs e its)) (flat_map (λ i. fails docs e i.env i.vector) its)
@@ -264,6 +312,13 @@ DemandsAreSmall = (N : ℕ) (s : State) (hi : ℕ) (gs : List Group) (fs : List 
 abbrev pub OperatorMakes : Type 0
 OperatorMakes = (docs : Docs) (texts : List Text) (g g' : Graph) (op : Op) (id : OpId) → is_valid g.ops ≡ true → step_at texts (length g.ops) op ≡ [] → Adds g op id g'
     → let R = item_rules docs texts in let t = table_of R (tables R g.ops) op in Makes (state_of docs texts g) (state_of docs texts g') id t.cols t.rows (demand_of R op t)
+
+-- a step that is handed to a plan is the one step that is added
+abbrev pub StepMakes : Type 0
+StepMakes = (docs : Docs) (texts : List Text) (g g' : Graph) (i : OpId) (axis : Axis) (wanted : NodeTest) (site offset : ℕ) (it v : Col) (id : OpId) → Adds g (o.Step i axis wanted site offset it v) id g'
+    → let R = item_rules docs texts in
+    let t = table_of R (tables R g.ops) (o.Step i axis wanted site offset it v) in
+    MakesStep (state_of docs texts g) (state_of docs texts g') (record { step = record { site = record { number = site; offset = offset }; axis = axis; test = walk_test texts wanted }; input = i; op = id }) t.cols t.rows
 
 -- a check of an operator of the plan that is added to it
 abbrev pub CheckAdds : Type 0

@@ -10,4 +10,7 @@ pub mod Verdicts
 pub mod Stages
 pub mod Pairs
 pub mod Walks
+pub mod Sequences
+pub mod Aggregates
+pub mod TypeTests
 pub mod Laws

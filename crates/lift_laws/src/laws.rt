@@ -1,5 +1,5 @@
 //! Laws of the lift, which a plan's maker cites.
-ghost use Rattle.lift_laws.specs.Laws.{BindingLifts, BooleansLift, BranchCarries, CallsLift, CastableLifts, CheckAdds, ChecksAnswer, ChoiceLifts, ConnectivesLift, ConstantsLift, CostIsWork, CountLifts, DataLifts, DemandsAreSmall, EmptyLifts, ExactlyOneLifts, ExistsLifts, FailuresAreReached, FailuresLift, GeneralsLift, ItemRulesLift, LiteralLifts, LoopCarries, LoopLifts, NoPartsLift, NoneCarried, NothingLifts, OneMoreCarried, OneOrMoreLifts, OperatorMakes, PairRulesLift, PartsLift, PathsLift, RulesAreFair, SequenceLifts, StepsLift, TextPairsLift, TextRulesLift, TreesAreKnown, UnionsLift, ValuesWhereNothingFails, VariableLifts, ZeroOrOneLifts};
+ghost use Rattle.lift_laws.specs.Laws.{AggregatesLift, AtomConversionsLift, BindingLifts, BooleansLift, BranchCarries, CallsLift, CastableLifts, CheckAdds, ChecksAnswer, ChoiceLifts, ConcatsLift, ConnectivesLift, ConstantsLift, CostIsWork, CountLifts, DataLifts, DemandsAreSmall, EmptyLifts, ExactlyOneLifts, ExistsLifts, FailuresAreReached, FailuresLift, GeneralsLift, InstancesLift, ItemConversionsLift, ItemRulesLift, LiteralLifts, LoopCarries, LoopLifts, NoPartsLift, NoneCarried, NothingLifts, OneMoreCarried, OneOrMoreLifts, OperatorMakes, PairRulesLift, PartsLift, PathsLift, ReverseLifts, RulesAreFair, SequenceLifts, StepMakes, StepsLift, TextPairsLift, TextRulesLift, TreatsLift, TreesAreKnown, UnionsLift, ValuesWhereNothingFails, VariableLifts, ZeroOrOneLifts};
 
 /// Where nothing fails in any iteration, each has a value.
 #[tactic(auto, using(crate::proofs::Cases::values_where_nothing_fails))]
@@ -221,4 +221,44 @@ pub fn unions_lift()
 /// The result of a path is lifted by its nodes, each once, by document order, or its other items, and a check.
 pub fn paths_lift()
     ensures { PathsLift }
+{}
+
+/// `reverse` is lifted by its argument's items with new positions, from the last one on.
+pub fn reverse_lifts()
+    ensures { ReverseLifts }
+{}
+
+/// `concat` is lifted by the texts of its arguments, from the last one on, and a check.
+pub fn concats_lift()
+    ensures { ConcatsLift }
+{}
+
+/// `sum`, `min` and `max` are lifted by what is given of each iteration's items in order, and a check for each code.
+pub fn aggregates_lift()
+    ensures { AggregatesLift }
+{}
+
+/// `instance of` a type of atomic values or of any items is lifted by a boolean for each iteration.
+pub fn instances_lift()
+    ensures { InstancesLift }
+{}
+
+/// `treat as` a type of atomic values or of any items is lifted by a check and its argument's table.
+pub fn treats_lift()
+    ensures { TreatsLift }
+{}
+
+/// A step that is handed to a plan is the one step that is added.
+pub fn step_makes()
+    ensures { StepMakes }
+{}
+
+/// A conversion to a type of any items is lifted by a check and its argument's table.
+pub fn item_conversions_lift()
+    ensures { ItemConversionsLift }
+{}
+
+/// A conversion to a type of any atomic values is lifted by a map over the items and a check.
+pub fn atom_conversions_lift()
+    ensures { AtomConversionsLift }
 {}

@@ -5,12 +5,14 @@
 mod laws;
 
 pub use laws::{
-    binding_lifts, booleans_lift, branch_carries, calls_lift, castable_lifts, check_adds,
-    checks_answer, choice_lifts, connectives_lift, constants_lift, cost_is_work, count_lifts,
-    data_lifts, demands_are_small, empty_lifts, exactly_one_lifts, exists_lifts,
-    failures_are_reached, failures_lift, generals_lift, item_rules_lift, literal_lifts,
+    aggregates_lift, atom_conversions_lift, binding_lifts, booleans_lift, branch_carries,
+    calls_lift, castable_lifts, check_adds, checks_answer, choice_lifts, concats_lift,
+    connectives_lift, constants_lift, cost_is_work, count_lifts, data_lifts, demands_are_small,
+    empty_lifts, exactly_one_lifts, exists_lifts, failures_are_reached, failures_lift,
+    generals_lift, instances_lift, item_conversions_lift, item_rules_lift, literal_lifts,
     loop_carries, loop_lifts, no_parts_lift, none_carried, nothing_lifts, one_more_carried,
-    one_or_more_lifts, operator_makes, pair_rules_lift, parts_lift, paths_lift, rules_are_fair,
-    sequence_lifts, steps_lift, text_pairs_lift, text_rules_lift, trees_are_known, unions_lift,
-    values_where_nothing_fails, variable_lifts, zero_or_one_lifts,
+    one_or_more_lifts, operator_makes, pair_rules_lift, parts_lift, paths_lift, reverse_lifts,
+    rules_are_fair, sequence_lifts, step_makes, steps_lift, text_pairs_lift, text_rules_lift,
+    treats_lift, trees_are_known, unions_lift, values_where_nothing_fails, variable_lifts,
+    zero_or_one_lifts,
 };
