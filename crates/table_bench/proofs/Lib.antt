@@ -1,0 +1,4 @@
+pub mod EveryKernel
+pub mod PrintedLines
+pub mod Rows
+pub mod WholeInput

@@ -1,0 +1,5 @@
+pub mod Fault
+pub mod Input
+pub mod Kernels
+pub mod Run
+pub mod Tables
