@@ -14,6 +14,7 @@ use Rattle.xq_base.specs.Aggregates.{total as sum_of}
 use Rattle.doc_table.specs.Values.{Items, items_of, data_of}
 use Rattle.doc_table.specs.NodeRules.{Docs}
 use Rattle.doc_table.specs.Functions.{fun_answer}
+use Rattle.plan_dag.specs.declared.op.Agg.{Agg}
 use Rattle.plan_dag.specs.declared.op.OpId.{OpId}
 use Rattle.plan_dag.specs.declared.check.Check.{Check}
 use Rattle.plan_dag.specs.Cells.{Outcome, Gives, Fails, Silent, given, code_in}
@@ -30,7 +31,7 @@ use Rattle.lift_laws.specs.States.{State, at, Makes, column, three, single}
 use Rattle.lift_laws.specs.Shapes.{bare, pair, columns, pick, any_rows}
 use Rattle.lift_laws.specs.Stages.{Stages}
 use Rattle.lift_laws.specs.Pairs.{PairCode, OfBoth}
-use Rattle.lift_laws.specs.Aggregates.{sorted_rows, AggRule, Totals, Minima, Maxima, agg_of, agg_fun, agg_codes, none_rows, grouped_rows, agg_value_rows, agg_marks, agg_most}
+use Rattle.lift_laws.specs.Aggregates.{sorted_rows, grouped_by, given_by, AggRule, Totals, Minima, Maxima, agg_of, agg_fun, agg_codes, none_rows, grouped_rows, agg_given_rows, agg_value_rows, agg_marks, agg_most}
 use Rattle.lift_laws.specs.Lifting.{CallLifts}
 use Rattle.lift_laws.proofs.Multi.{same-of, same-trans, same-map, same-length, length-total, total-ext, total-map, total-flat, total-keep}
 use Rattle.lift_laws.proofs.Picks.{all_each, all_mono, flat-all, map-flat, total-all}
@@ -50,10 +51,10 @@ use Rattle.lift_laws.proofs.PairCase.{OneAtMost, code_fault, shown}
 use Rattle.lift_laws.proofs.SortedRows.{own_blocks, sorted_like}
 
 -- what the function gives of all items
-abbrev answer : AggRule → Items → Answer Items
+abbrev pub answer : AggRule → Items → Answer Items
 answer q vs = fun_answer [] (agg_fun q) (vs ∷ [])
 
-whole_is : (q : AggRule) (vs : Items) → bare.whole (agg_of q) vs ≡ outcome_of (answer q vs)
+pub whole_is : (q : AggRule) (vs : Items) → bare.whole (agg_of q) vs ≡ outcome_of (answer q vs)
 whole_is Totals vs = refl
 whole_is Minima vs = refl
 whole_is Maxima vs = refl
@@ -62,7 +63,7 @@ items_back : (n k : ℕ) (vs : Items) → map item (item_rows n k vs) ≡ vs
 items_back n k [] = refl
 items_back n k (v ∷ vs) = ap (λ l. v ∷ l) (items_back n (k + 1) vs)
 
-module _ (q : AggRule) (h : Iter → List Cell) (its : List Iter) (asc : Ascends (λ i. i.number) 0 its) where
+module _ (agg : Agg) (h : Iter → List Cell) (its : List Iter) (asc : Ascends (λ i. i.number) 0 its) where
   abbrev all : List Row
   all = value_rows h its
 
@@ -84,7 +85,7 @@ module _ (q : AggRule) (h : Iter → List Cell) (its : List Iter) (asc : Ascends
 
   -- the values of the groups beside the loop
   abbrev grouped_at : Iter → List Row
-  grouped_at i = cond (some (h i)) (map (λ v. num i.number ∷ num i.number ∷ v ∷ []) (given (bare.whole (agg_of q) (h i)))) []
+  grouped_at i = cond (some (h i)) (map (λ v. num i.number ∷ num i.number ∷ v ∷ []) (given (bare.whole agg (h i)))) []
 
   pulled : (w : Row → ℕ) (n : ℕ) (k : Cell) (vs : List Cell) → total (λ r. cond (cell_eq (num n) (right (moved r))) (w ((num n ∷ []) ++ moved r)) 0) (map (λ v. k ∷ v ∷ []) vs) ≡ cond (cell_eq (num n) k) (total (λ v. w (num n ∷ k ∷ v ∷ [])) vs) 0
   pulled w n k [] = sym (zero_if (cell_eq (num n) k))
@@ -96,26 +97,26 @@ module _ (q : AggRule) (h : Iter → List Cell) (its : List Iter) (asc : Ascends
   weigh_map w n true vs = sym (total-map w (λ v. num n ∷ num n ∷ v ∷ []) vs)
   weigh_map w n false vs = refl
 
-  grouped_stand : (l : List Row) → Same l (loop_rows its) → Same (grouped_rows q l (value_rows h its)) (flat_map grouped_at its)
+  grouped_stand : (l : List Row) → Same l (loop_rows its) → Same (grouped_by agg l (value_rows h its)) (flat_map grouped_at its)
   grouped_stand l sl = record {
     at = λ w.
-        let made = λ (r : Row). map (λ v. key r ∷ v ∷ []) (given (group_value bare (agg_of q) key item (value_rows h its) r)) in
+        let made = λ (r : Row). map (λ v. key r ∷ v ∷ []) (given (group_value bare agg key item (value_rows h its) r)) in
         let table = flat_map made (group_rows bare key (value_rows h its)) in
         let each = λ (r : Row). map (λ z. r ++ z) (filter (λ z. cell_eq (cell bare single (column 0) r) (right z)) (map moved table)) in
         total-flat w each l
         ∙ sl.at (λ r. total w (each r))
         ∙ total-map (λ r. total w (each r)) (λ (i : Iter). num i.number ∷ []) its
         ∙ total-all _ _ its (all_two _ _ _ (λ i (e : group_of (num i.number) ≡ h i) (m : is_there (num i.number) (any_rows (value_rows h its)) ≡ some (h i)).
-        let hv = λ (k : Cell). total (λ v. w (num i.number ∷ k ∷ v ∷ [])) (given (bare.whole (agg_of q) (group_of k))) in
+        let hv = λ (k : Cell). total (λ v. w (num i.number ∷ k ∷ v ∷ [])) (given (bare.whole agg (group_of k))) in
         total-map w (λ z. (num i.number ∷ []) ++ z) (filter (λ z. cell_eq (num i.number) (right z)) (map moved table))
         ∙ total-keep (λ z. w ((num i.number ∷ []) ++ z)) (λ z. cell_eq (num i.number) (right z)) (map moved table)
         ∙ total-map (λ z. cond (cell_eq (num i.number) (right z)) (w ((num i.number ∷ []) ++ z)) 0) moved table
         ∙ total-flat (λ z. cond (cell_eq (num i.number) (right (moved z))) (w ((num i.number ∷ []) ++ moved z)) 0) made (group_rows bare key (value_rows h its))
-        ∙ total-ext _ _ (group_rows bare key (value_rows h its)) (λ r. pulled w i.number (key r) (given (group_value bare (agg_of q) key item (value_rows h its) r)))
+        ∙ total-ext _ _ (group_rows bare key (value_rows h its)) (λ r. pulled w i.number (key r) (given (group_value bare agg key item (value_rows h its) r)))
         ∙ one_first i.number hv [] (value_rows h its)
         ∙ ap (λ b. cond b (hv (num i.number)) 0) (and-true (named i.number (value_rows h its)) ∙ named_there i.number (value_rows h its) ∙ m)
-        ∙ ap (λ vs. cond (some (h i)) (total (λ v. w (num i.number ∷ num i.number ∷ v ∷ [])) (given (bare.whole (agg_of q) vs))) 0) e
-        ∙ weigh_map w i.number (some (h i)) (given (bare.whole (agg_of q) (h i)))) its groups there)
+        ∙ ap (λ vs. cond (some (h i)) (total (λ v. w (num i.number ∷ num i.number ∷ v ∷ [])) (given (bare.whole agg vs))) 0) e
+        ∙ weigh_map w i.number (some (h i)) (given (bare.whole agg (h i)))) its groups there)
         ∙ sym (total-flat w grouped_at its);
   }
 
@@ -127,15 +128,15 @@ module _ (q : AggRule) (h : Iter → List Cell) (its : List Iter) (asc : Ascends
   flip false false = refl
 
   abbrev fails : Code → Items → Bool
-  fails d vs = is_code d (code_in (bare.whole (agg_of q) vs))
+  fails d vs = is_code d (code_in (bare.whole agg vs))
 
   some_fails : (d : Code) (vs : Items) → nat_lt 0 (cond (some vs) (bit (fails d vs)) 0) ≡ cond (some vs) (fails d vs) false
   some_fails d vs = elim (some vs) as (λ b. nat_lt 0 (cond b (bit (fails d vs)) 0) ≡ cond b (fails d vs) false) [ true ↦ bit_back (fails d vs) | false ↦ refl ]
 
-  marks_groups : (d : Code) → Marks (aggregate_fails_rows bare (agg_of q) d key item (value_rows h its)) (λ i. cond (some (h i)) (fails d (h i)) false) its
+  marks_groups : (d : Code) → Marks (aggregate_fails_rows bare agg d key item (value_rows h its)) (λ i. cond (some (h i)) (fails d (h i)) false) its
   marks_groups d = record {
     each = all_two _ _ _ (λ i (e : group_of (num i.number) ≡ h i) (m : is_there (num i.number) (any_rows (value_rows h its)) ≡ some (h i)).
-        let bad = λ (r : Row). is_code d (code_in (group_value bare (agg_of q) key item (value_rows h its) r)) in
+        let bad = λ (r : Row). is_code d (code_in (group_value bare agg key item (value_rows h its) r)) in
         let hv = λ (k : Cell). bit (fails d (group_of k)) in
         any_count (λ r. cell_eq (num i.number) (cell bare single (column 0) r)) (map (λ r. key r ∷ []) (filter bad (group_rows bare key (value_rows h its))))
         ∙ ap (nat_lt 0)
@@ -214,7 +215,7 @@ then_one : {A : Type 0} (x : Answer A) (k : A → Answer (List Atom)) → ((a : 
 then_one (Value a) k h = h a
 then_one (Refused d) k h = tt
 
-one_most : (q : AggRule) (vs : Items) → OneAtMost (answer q vs)
+pub one_most : (q : AggRule) (vs : Items) → OneAtMost (answer q vs)
 one_most Totals [] = tt
 one_most Totals (v ∷ vs) = number_one (then_rule (all_of addend (data_of (v ∷ vs))) (λ zs. checked (sum_of zs)))
 one_most Minima vs = then_one (all_of as_integer (data_of vs)) _ (λ as'. best_one _ as')
@@ -237,7 +238,7 @@ none_stands Minima its l s = empty_stands its
 none_stands Maxima its l s = empty_stands its
 
 -- the tests of the codes
-abbrev tests : AggRule → List Code → (Iter → List Cell) → List (Iter → Bool)
+abbrev pub tests : AggRule → List Code → (Iter → List Cell) → List (Iter → Bool)
 tests q [] h = []
 tests q (d ∷ ds) h = (λ i. cond (some (h i)) (is_code d (code_in (bare.whole (agg_of q) (h i)))) false) ∷ tests q ds h
 
@@ -255,10 +256,10 @@ first_is q [] a h i = refl
 first_is q (d ∷ ds) a h i =
     ap (λ b. cond b (Some d) (first_coded (map first_mark (coded q a ds)) (tests q ds h) i)) (test_is q d (h i)) ∙ ap (cond (is_code d (fault_in (answer q (h i)))) (Some d)) (first_is q ds a h i)
 
-marks_all : (q : AggRule) (ds : List Code) (h : Iter → List Cell) (its : List Iter) (a : List Row) → Ascends (λ i. i.number) 0 its → Same a (value_rows h its) → AllMark (marked_rows (coded q a ds)) (tests q ds h) its
+pub marks_all : (q : AggRule) (ds : List Code) (h : Iter → List Cell) (its : List Iter) (a : List Row) → Ascends (λ i. i.number) 0 its → Same a (value_rows h its) → AllMark (marked_rows (coded q a ds)) (tests q ds h) its
 marks_all q [] h its a asc sa = tt
 marks_all q (d ∷ ds) h its a asc sa = (
-  marks_same (record { at = λ w. (sorted_like h its a asc sa).at (λ rs. total w (aggregate_fails_rows bare (agg_of q) d key item rs)) }) (marks_groups q h its asc d),
+  marks_same (record { at = λ w. (sorted_like h its a asc sa).at (λ rs. total w (aggregate_fails_rows bare (agg_of q) d key item rs)) }) (marks_groups (agg_of q) h its asc d),
   marks_all q ds h its a asc sa,
 )
 
@@ -267,51 +268,43 @@ given_one (Gives v) n = refl
 given_one (Fails d) n = refl
 given_one Silent n = refl
 
-abbrev front_at : AggRule → Items → Items
-front_at q vs = cond (some vs) (given (bare.whole (agg_of q) vs)) []
+-- what is given of the items of a group, nothing where there is none
+abbrev pub front_of : Agg → Items → Items
+front_of agg vs = cond (some vs) (given (bare.whole agg vs)) []
 
-front_rows : (q : AggRule) (n : ℕ) (vs : Items) → map (λ r. pick (columns (0 ∷ 4 ∷ 5 ∷ 1 ∷ [])) (pair 0 0 ∷ pair 1 1 ∷ pair 2 5 ∷ []) r) (map (λ r. r ++ num 1 ∷ []) (cond (some vs) (map (λ v. num n ∷ num n ∷ v ∷ []) (given (bare.whole (agg_of q) vs))) [])) ≡ item_rows n 1 (front_at q vs)
-front_rows q n vs = go (some vs)
+abbrev pub front_at : AggRule → Items → Items
+front_at q vs = front_of (agg_of q) vs
+
+front_rows : (agg : Agg) (n : ℕ) (vs : Items) → map (λ r. pick (columns (0 ∷ 4 ∷ 5 ∷ 1 ∷ [])) (pair 0 0 ∷ pair 1 1 ∷ pair 2 5 ∷ []) r) (map (λ r. r ++ num 1 ∷ []) (cond (some vs) (map (λ v. num n ∷ num n ∷ v ∷ []) (given (bare.whole agg vs))) [])) ≡ item_rows n 1 (front_of agg vs)
+front_rows agg n vs = go (some vs)
   where
-    go : (b : Bool) → map (λ r. pick (columns (0 ∷ 4 ∷ 5 ∷ 1 ∷ [])) (pair 0 0 ∷ pair 1 1 ∷ pair 2 5 ∷ []) r) (map (λ r. r ++ num 1 ∷ []) (cond b (map (λ v. num n ∷ num n ∷ v ∷ []) (given (bare.whole (agg_of q) vs))) [])) ≡ item_rows n 1 (cond b (given (bare.whole (agg_of q) vs)) [])
-    go true = given_one (bare.whole (agg_of q) vs) n
+    go : (b : Bool) → map (λ r. pick (columns (0 ∷ 4 ∷ 5 ∷ 1 ∷ [])) (pair 0 0 ∷ pair 1 1 ∷ pair 2 5 ∷ []) r) (map (λ r. r ++ num 1 ∷ []) (cond b (map (λ v. num n ∷ num n ∷ v ∷ []) (given (bare.whole agg vs))) [])) ≡ item_rows n 1 (cond b (given (bare.whole agg vs)) [])
+    go true = given_one (bare.whole agg vs) n
     go false = refl
 
-front_none : (q : AggRule) (vs : Items) → some vs ≡ false → front_at q vs ≡ []
-front_none q vs e = ap (λ b. cond b (given (bare.whole (agg_of q) vs)) []) e
+pub front_none : (agg : Agg) (vs : Items) → some vs ≡ false → front_of agg vs ≡ []
+front_none agg vs e = ap (λ b. cond b (given (bare.whole agg vs)) []) e
 
-both_are : (q : AggRule) (vs : Items) → cond (some vs) (front_at q vs) (none_value q) ≡ list_of (value_in (answer q vs))
-both_are q [] = ap (λ x. list_of (value_in x)) (sym (none_is q))
-both_are q (v ∷ vs) =
-    ap (λ b. cond b (cond b (given (bare.whole (agg_of q) (v ∷ vs))) []) (none_value q)) (sym (some_items (v ∷ vs))) ∙ ap given (whole_is q (v ∷ vs)) ∙ shown (answer q (v ∷ vs)) (one_most q (v ∷ vs))
+module _ (agg : Agg) (h : Iter → List Cell) (its : List Iter) (l a : List Row) (asc : Ascends (λ i. i.number) 0 its) (sl : Same l (loop_rows its)) (sa : Same a (value_rows h its)) where
+  grouped : Same (grouped_by agg l (sorted_rows a)) (flat_map (grouped_at agg h its asc) its)
+  grouped = same-trans (record { at = λ w. (sorted_like h its a asc sa).at (λ rs. total w (grouped_by agg l rs)) }) (grouped_stand agg h its asc l sl)
 
-module _ (q : AggRule) (h : Iter → List Cell) (its : List Iter) (l a : List Row) (asc : Ascends (λ i. i.number) 0 its) (sl : Same l (loop_rows its)) (sa : Same a (value_rows h its)) where
-  grouped : Same (grouped_rows q l (sorted_rows a)) (flat_map (grouped_at q h its asc) its)
-  grouped = same-trans (record { at = λ w. (sorted_like h its a asc sa).at (λ rs. total w (grouped_rows q l rs)) }) (grouped_stand q h its asc l sl)
-
-  agg_stands : Same (agg_value_rows q l a) (value_rows (λ i. list_of (value_in (answer q (h i)))) its)
-  agg_stands =
-      let p = λ (i : Iter). some (h i) in
+  pub groups_stand : Same (given_by agg l (sorted_rows a)) (value_rows (λ i. front_of agg (h i)) its)
+  groups_stand =
       let out = λ (r : Row). pick (columns (0 ∷ 4 ∷ 5 ∷ 1 ∷ [])) (pair 0 0 ∷ pair 1 1 ∷ pair 2 5 ∷ []) r in
-      let front = same-trans (same-map out (same-map (λ r. r ++ num 1 ∷ []) grouped))
-      (same-of (ap (map out) (map-flat (λ r. r ++ num 1 ∷ []) (grouped_at q h its asc) its) ∙ map-flat out (λ i. map (λ r. r ++ num 1 ∷ []) (grouped_at q h its asc i)) its
-      ∙ flat-all _ _ its (all_each _ (λ i. front_rows q i.number (h i)) its)
-      ∙ left_out p (λ i. front_at q (h i)) (λ i e. front_none q (h i) e) its)) in
-      same-trans (either_stands p (λ i. front_at q (h i)) (λ i. none_value q) its _ _ front (none_stands q (filter (λ i. not (p i)) its) _ (unmarked_stands p its l _ sl (marks_any h its a asc sa))))
-      (same-of (flat-all _ _ its (all_each _ (λ i. ap (item_rows i.number 1) (both_are q (h i))) its)))
+      same-trans (same-map out (same-map (λ r. r ++ num 1 ∷ []) grouped))
+      (same-of (ap (map out) (map-flat (λ r. r ++ num 1 ∷ []) (grouped_at agg h its asc) its) ∙ map-flat out (λ i. map (λ r. r ++ num 1 ∷ []) (grouped_at agg h its asc i)) its
+      ∙ flat-all _ _ its (all_each _ (λ i. front_rows agg i.number (h i)) its)))
 
-  agg_few : AllOf (λ (j : List Row). length j ≤ length l + length a) (sorted_rows a ∷ grouped_rows q l (sorted_rows a) ∷ agg_value_rows q l a ∷ [])
-  agg_few =
-      let x = (sorted_like h its a asc sa).at length ∙ sym (same-length sa) in
-      let z = same-length sl ∙ size_loop its ∙ length-total its in
-      let y = same-length grouped ∙ length-total (flat_map (grouped_at q h its asc) its) ∙ total-flat (λ r. 1) (grouped_at q h its asc) its in
-      let u = total_most (λ i. total (λ (r : Row). 1) (grouped_at q h its asc i)) (λ i. 1) its (λ i. group_few i.number (some (h i)) (bare.whole (agg_of q) (h i))) in
-      let v = same-length agg_stands ∙ size_cells (λ i. list_of (value_in (answer q (h i)))) its in
-      let w = total_most (λ i. length (list_of (value_in (answer q (h i))))) (λ i. 1) its (λ i. answer_few (answer q (h i)) (one_most q (h i))) in
-      let one : length (sorted_rows a) ≤ length l + length a = omega arith in
-      let two : length (grouped_rows q l (sorted_rows a)) ≤ length l + length a = omega arith in
-      let three' : length (agg_value_rows q l a) ≤ length l + length a = omega arith in
-      (one, (two, (three', tt)))
+  pub sorted_few : length (sorted_rows a) ≡ length a
+  sorted_few = (sorted_like h its a asc sa).at length ∙ sym (same-length sa)
+
+  pub grouped_few : length (grouped_by agg l (sorted_rows a)) ≤ length its
+  grouped_few =
+      let y = same-length grouped ∙ length-total (flat_map (grouped_at agg h its asc) its) ∙ total-flat (λ r. 1) (grouped_at agg h its asc) its in
+      let u = total_most (λ i. total (λ (r : Row). 1) (grouped_at agg h its asc i)) (λ i. 1) its (λ i. group_few i.number (some (h i)) (bare.whole agg (h i))) in
+      let z = length-total its in
+      omega arith
     where
       group_few : (n : ℕ) (b : Bool) (x : Outcome Cell) → total (λ (r : Row). 1) (cond b (map (λ v. num n ∷ num n ∷ v ∷ []) (given x)) []) ≤ 1
       group_few n true (Gives v) = omega arith
@@ -319,6 +312,34 @@ module _ (q : AggRule) (h : Iter → List Cell) (its : List Iter) (l a : List Ro
       group_few n true Silent = omega arith
       group_few n false x = omega arith
 
+both_are : (q : AggRule) (vs : Items) → cond (some vs) (front_at q vs) (none_value q) ≡ list_of (value_in (answer q vs))
+both_are q [] = ap (λ x. list_of (value_in x)) (sym (none_is q))
+both_are q (v ∷ vs) =
+    ap (λ b. cond b (cond b (given (bare.whole (agg_of q) (v ∷ vs))) []) (none_value q)) (sym (some_items (v ∷ vs))) ∙ ap given (whole_is q (v ∷ vs)) ∙ shown (answer q (v ∷ vs)) (one_most q (v ∷ vs))
+
+module _ (q : AggRule) (h : Iter → List Cell) (its : List Iter) (l a : List Row) (asc : Ascends (λ i. i.number) 0 its) (sl : Same l (loop_rows its)) (sa : Same a (value_rows h its)) where
+  pub given_stands : Same (agg_given_rows q l a) (value_rows (λ i. front_at q (h i)) (filter (λ i. some (h i)) its))
+  given_stands = same-trans (groups_stand (agg_of q) h its l a asc sl sa) (same-of (left_out (λ i. some (h i)) (λ i. front_at q (h i)) (λ i e. front_none (agg_of q) (h i) e) its))
+
+  agg_stands : Same (agg_value_rows q l a) (value_rows (λ i. list_of (value_in (answer q (h i)))) its)
+  agg_stands =
+      let p = λ (i : Iter). some (h i) in
+      same-trans (either_stands p (λ i. front_at q (h i)) (λ i. none_value q) its _ _ given_stands (none_stands q (filter (λ i. not (p i)) its) _ (unmarked_stands p its l _ sl (marks_any h its a asc sa))))
+      (same-of (flat-all _ _ its (all_each _ (λ i. ap (item_rows i.number 1) (both_are q (h i))) its)))
+
+  agg_few : AllOf (λ (j : List Row). length j ≤ length l + length a) (sorted_rows a ∷ grouped_rows q l (sorted_rows a) ∷ agg_value_rows q l a ∷ [])
+  agg_few =
+      let x = sorted_few (agg_of q) h its l a asc sl sa in
+      let z = same-length sl ∙ size_loop its in
+      let t = length-total its in
+      let y = grouped_few (agg_of q) h its l a asc sl sa in
+      let v = same-length agg_stands ∙ size_cells (λ i. list_of (value_in (answer q (h i)))) its in
+      let w = total_most (λ i. length (list_of (value_in (answer q (h i))))) (λ i. 1) its (λ i. answer_few (answer q (h i)) (one_most q (h i))) in
+      let one : length (sorted_rows a) ≤ length l + length a = omega arith in
+      let two : length (grouped_rows q l (sorted_rows a)) ≤ length l + length a = omega arith in
+      let three' : length (agg_value_rows q l a) ≤ length l + length a = omega arith in
+      (one, (two, (three', tt)))
+    where
       answer_few : (x : Answer Items) → OneAtMost x → length (list_of (value_in x)) ≤ 1
       answer_few (Value []) k = omega arith
       answer_few (Value (v ∷ [])) k = omega arith
@@ -330,15 +351,19 @@ answer_is docs Totals vs = refl
 answer_is docs Minima vs = refl
 answer_is docs Maxima vs = refl
 
-ranked : (q : AggRule) (a : List Row) → Ranked (map first_mark (agg_marks q a))
+pub ranked : (q : AggRule) (a : List Row) → Ranked (map first_mark (agg_marks q a))
 ranked Totals a = ((omega arith, (omega arith, tt)), ((omega arith, tt), (tt, tt)))
 ranked Minima a = ((omega arith, tt), (tt, tt))
 ranked Maxima a = ((omega arith, tt), (tt, tt))
 
-dynamic : (q : AggRule) (a : List Row) → AllOf (λ (m : Code × List Row). is_dynamic m.0 ≡ true) (agg_marks q a)
+pub dynamic : (q : AggRule) (a : List Row) → AllOf (λ (m : Code × List Row). is_dynamic m.0 ≡ true) (agg_marks q a)
 dynamic Totals a = (refl, (refl, (refl, tt)))
 dynamic Minima a = (refl, (refl, tt))
 dynamic Maxima a = (refl, (refl, tt))
+
+-- the first code
+pub agg_first : (q : AggRule) (a : List Row) (h : Iter → List Cell) (i : Iter) → fault_in (answer q (h i)) ≡ first_coded (map first_mark (agg_marks q a)) (tests q (agg_codes q) h) i
+agg_first q a h i = sym (first_is q (agg_codes q) a h i ∙ alone (fault_in (answer q (h i))) (both_codes (agg_codes q)) (among q (h i)))
 
 pub aggregate_call : (docs : Docs) (s s1 s2 : State) (site : Site) (q : AggRule) (looped a t : OpId) (cs : List Check)
     → Makes s s1 t three (agg_value_rows q (at s looped).rows (at s a).rows) (agg_most q (at s looped).rows (at s a).rows)
@@ -349,7 +374,7 @@ aggregate_call docs s s1 s2 site q looped a t cs m st =
     let b = (at s a).rows in
     stages_one docs s s1 s2 site (Apply (agg_fun q)) looped a t cs (agg_marks q (at s a).rows) (sorted_rows (at s a).rows ∷ grouped_rows q (at s looped).rows (sorted_rows (at s a).rows) ∷ agg_value_rows q (at s looped).rows (at s a).rows ∷ []) (tests q (agg_codes q)) refl (ranked q (at s a).rows) (dynamic q (at s a).rows) _ _ _ m st
     (λ N e w. let z : agg_most q (at s looped).rows (at s a).rows ≤ N = max-le e (max-le w.0 (max-le w.1.0 w.1.1.0)) in (z, z))
-    (answer q) (λ h i. answer_is docs q (h i)) (λ h i. sym (first_is q (agg_codes q) (at s a).rows h i ∙ alone (fault_in (answer q (h i))) (both_codes (agg_codes q)) (among q (h i))))
+    (answer q) (λ h i. answer_is docs q (h i)) (λ h i. agg_first q (at s a).rows h i)
     (λ its h asc sl sa. marks_all q (agg_codes q) h its (at s a).rows asc sa)
     (λ its h asc sl sa. agg_few q h its (at s looped).rows (at s a).rows asc sl sa)
     (λ its h asc sl sa tree rooted calm. agg_stands q h its (at s looped).rows (at s a).rows asc sl sa)

@@ -1,10 +1,9 @@
 -- Equality of cells is an equivalence, and a cell that stands for all that equal it, where trees are known by their identity.
-use Rattle.std.proofs.Common.{◌≡◌, nat_eq, true, false, Option, Some, None, refl, sym, ap, ◌∙◌, true≢false}
+use Rattle.std.proofs.Common.{◌≡◌, nat_eq, true, Option, Some, None, refl, sym, ap, ◌∙◌, true≢false}
 use Rattle.std.specs.Cmp.{IsEquivalence, bool_eq_equiv}
 use Rattle.std.proofs.lemmas.Cmp.{int_eq_equiv}
 use Rattle.std.proofs.lemmas.Bool.{and_parts, eqb-true}
 use Rattle.std.proofs.lemmas.Bool.Decides.{Decides-int_eq}
-use Rattle.std.specs.Ordering.{int_eq}
 use Rattle.xq_base.specs.Texts.{Text, text_eq}
 use Rattle.doc_table.specs.Tree.{Tree, Branch, OfDocument, no_more}
 use Rattle.doc_table.specs.Paths.{Path, is_same, path_eq}
@@ -15,7 +14,6 @@ use Rattle.doc_table.proofs.StrictOrders.{same-bools, same-lists, same-ids, node
 use Rattle.doc_table.proofs.TextTests.{text-refl, text-sound}
 use Rattle.plan_dag.specs.ItemRules.{Cell, cell_eq}
 use Rattle.lift_laws.specs.Iterations.{num}
-use Rattle.lift_laws.specs.Lifting.{Rooted}
 use Rattle.lift_laws.proofs.Numbers.{cell_eq_self}
 
 text_turn : (t u : Text) → text_eq t u ≡ true → text_eq u t ≡ true
@@ -163,5 +161,5 @@ node_same tree (NodeItem n) (NodeItem m) e =
     let p = and_parts (tree_id_eq n.id m.id) (path_eq n.path m.path) e in
     ap (λ i. NodeItem (record { id = i; tree = tree_or (tree i); path = n.path })) (same-ids n.id m.id p.0) ∙ ap (λ q. NodeItem (record { id = m.id; tree = tree_or (tree m.id); path = q })) (same-path n.path m.path p.1)
 
-pub known_node : (tree : TreeId → Option (Tree Text)) (n : Node Text) → Rooted tree (NodeItem n) → node_with tree (NodeItem n) ≡ NodeItem n
+pub known_node : (tree : TreeId → Option (Tree Text)) (n : Node Text) → tree n.id ≡ Some n.tree → node_with tree (NodeItem n) ≡ NodeItem n
 known_node tree n h = ap (λ o. NodeItem (record { id = n.id; tree = tree_or o; path = n.path })) h

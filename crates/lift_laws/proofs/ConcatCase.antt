@@ -20,7 +20,7 @@ use Rattle.plan_dag.specs.Cells.{Outcome, Gives, Fails, Silent, given}
 use Rattle.plan_dag.specs.ItemRules.{Cell}
 use Rattle.core_meaning.specs.Expr.{Site, Apply}
 use Rattle.core_meaning.specs.Meaning.{value_in}
-use Rattle.lift_laws.specs.Sums.{total, AllOf, Ascends, Same}
+use Rattle.lift_laws.specs.Sums.{AllOf, Ascends, Same}
 use Rattle.lift_laws.specs.Iterations.{Row, Iter, item_rows, value_rows, loop_rows}
 use Rattle.lift_laws.specs.Bulk.{list_of}
 use Rattle.lift_laws.specs.States.{State, at, Makes, HoldAll, three}
@@ -122,12 +122,12 @@ concat_fault gs i = go (texts_in (map (λ g. g i) gs)) ∙ texts_fault gs i
     go (Value as') = refl
     go (Refused d) = refl
 
-given_few : (x : Outcome Cell) → length (given x) ≤ 1
+pub given_few : (x : Outcome Cell) → length (given x) ≤ 1
 given_few (Gives v) = omega arith
 given_few (Fails d) = omega arith
 given_few Silent = omega arith
 
-pair_few : (g : Fun) (us vs : Items) → length (given_at g us vs) ≤ 1
+pub pair_few : (g : Fun) (us vs : Items) → length (given_at g us vs) ≤ 1
 pair_few g [] vs = omega arith
 pair_few g (u ∷ []) [] = omega arith
 pair_few g (u ∷ []) (v ∷ []) = given_few (bare.value g (u ∷ v ∷ []))

@@ -281,7 +281,7 @@ module _ (docs : Docs) (W : World) where
     where
       at : (x : Answer (Option (Node Text))) → MaybeKnown x → Kept (with_value root_of_node (with_value (cell_option W) x)) (with_value root_of_node x)
       at (Value None) k = (refl, tt)
-      at (Value (Some n)) k = (refl, (k, tt))
+      at (Value (Some n)) k = (refl, ((k.0, refl), tt))
       at (Fault d) k = (refl, tt)
 
   named_kept : (g : Text → Text) (v : Items) → Kept (with_value (λ n. TextItem (g (name_or_empty n)) ∷ []) (maybe_node (map (cell_of W) v))) (with_value (λ n. TextItem (g (name_or_empty n)) ∷ []) (maybe_node v))
@@ -304,7 +304,7 @@ module _ (docs : Docs) (W : World) where
       let here : doc_tree docs k ≡ Some d.1 = ap (doc_tree docs) (sym (add-zero k)) ∙ h 0 in
       let r = doc_from_kept ds (k + 1) name (λ j. let z : k + 1 + j ≡ k + suc j = omega arith in ap (doc_tree docs) z ∙ h (suc j)) in
       elim (text_eq d.0 name) as (λ b. Kept (cond b (Value (NodeItem (record { id = DocTree k; tree = d.1; path = root_path }) ∷ [])) (doc_named ds (k + 1) name)) (cond b (Value (NodeItem (record { id = DocTree k; tree = d.1; path = root_path }) ∷ [])) (doc_named ds (k + 1) name))) [
-        | true ↦ (refl, (here, tt))
+        | true ↦ (refl, ((here, refl), tt))
         | false ↦ r
       ]
 
@@ -408,15 +408,18 @@ module _ (docs : Docs) (site : Site) where
       at (Value (Some t)) q = (
         ap (λ n. Value (NodeItem (record { id = BuiltTree site.number (n ∷ []); tree = t; path = root_path }) ∷ [])) (sym (number_found (W site.number).its (fw site.number).0 i among)),
         (
-          record {
-            from = i;
-            among = among;
-            vector_is = refl;
-            made_is =
-                ap (λ (r : Reach). val docs (Call r.site r.rule r.parts) i.env i.vector) nw
-                ∙ ap (λ o. and_then o (λ us. value_in (with_value (made_node (BuiltTree site.number i.vector)) (built kind us)))) e
-                ∙ ap (λ y. value_in (with_value (made_node (BuiltTree site.number i.vector)) y)) q;
-          },
+          (
+            record {
+              from = i;
+              among = among;
+              vector_is = refl;
+              made_is =
+                  ap (λ (r : Reach). val docs (Call r.site r.rule r.parts) i.env i.vector) nw
+                  ∙ ap (λ o. and_then o (λ us. value_in (with_value (made_node (BuiltTree site.number i.vector)) (built kind us)))) e
+                  ∙ ap (λ y. value_in (with_value (made_node (BuiltTree site.number i.vector)) y)) q;
+            },
+            refl,
+          ),
           tt,
         ),
       )

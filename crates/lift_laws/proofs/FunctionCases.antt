@@ -106,22 +106,28 @@ module _ (docs : Docs) where
   -- a call that never fails, whose table is made in one stretch
   module _ {s s' : State} (site : Site) (r : Rule) (looped : OpId) (args : List OpId) (t : OpId) (rows : List Row) (most : ℕ) (m : Makes s s' t three rows most) (no_step : own_walks site r ≡ [])
       (few : (N : ℕ) (its : List Iter) (gs : List (Iter → List Cell)) → Ascends (λ i. i.number) 0 its → Holds s looped single (loop_rows its) → HoldAll s args gs its → call_cost docs site r gs its ≤ N → most ≤ N)
-      (calm : (gs : List (Iter → List Cell)) (its : List Iter) → HoldAll s args gs its → AllOf (λ i. fault_in (call_answer docs site r gs i) ≡ None) its)
-      (stand : (its : List Iter) (gs : List (Iter → List Cell)) → Ascends (λ i. i.number) 0 its → Holds s looped single (loop_rows its) → HoldAll s args gs its → Same rows (value_rows (λ i. list_of (value_in (call_answer docs site r gs i))) its)) where
-    pub quiet_call : CallLifts docs s s' site r looped args t
-    quiet_call = record {
-      new = [];
-      grows = m.grows;
-      placed = tt;
-      coded = tt;
-      steps = record { added = []; steps_are = m.quiet ∙ sym (append_none s.steps); walks_are = sym no_step; inputs = tt };
-      told = λ N its gs asc hl hp tree rooted enough.
-          let z = flat_none (λ i. map (fault i.number) (faults_of (call_answer docs site r gs i) (failure site i.vector))) its
-          (all_mono _ _ (λ i (e : fault_in (call_answer docs site r gs i) ≡ None). ap (map (fault i.number)) (no_fault (call_answer docs site r gs i) (failure site i.vector) e)) its (calm gs its hp)) in (
-            subst (λ fs. Tells N s' (length s.tables) (length s'.tables) (record { site = site; checks = [] } ∷ []) fs) (sym z) (tt, tt, (λ q. (refl, small_most m.small (few N its gs asc hl hp enough)))),
-            (λ y. makes_holds m (stand its gs asc hl hp)),
-          );
-    }
+      (calm : (gs : List (Iter → List Cell)) (its : List Iter) → HoldAll s args gs its → AllOf (λ i. fault_in (call_answer docs site r gs i) ≡ None) its) where
+    module _ (stand : (its : List Iter) (gs : List (Iter → List Cell)) (tree : TreeId → Option (Tree Text)) → Ascends (λ i. i.number) 0 its → Holds s looped single (loop_rows its) → HoldAll s args gs its → AllOf (λ g. AllOf (λ i. AllOf (Rooted tree) (g i)) its) gs
+        → Same rows (value_rows (λ i. list_of (value_in (call_answer docs site r gs i))) its)) where
+      pub rooted_call : CallLifts docs s s' site r looped args t
+      rooted_call = record {
+        new = [];
+        grows = m.grows;
+        placed = tt;
+        coded = tt;
+        steps = record { added = []; steps_are = m.quiet ∙ sym (append_none s.steps); walks_are = sym no_step; inputs = tt };
+        told = λ N its gs asc hl hp tree rooted enough.
+            let z = flat_none (λ i. map (fault i.number) (faults_of (call_answer docs site r gs i) (failure site i.vector))) its
+            (all_mono _ _ (λ i (e : fault_in (call_answer docs site r gs i) ≡ None). ap (map (fault i.number)) (no_fault (call_answer docs site r gs i) (failure site i.vector) e)) its (calm gs its hp)) in (
+              subst (λ fs. Tells N s' (length s.tables) (length s'.tables) (record { site = site; checks = [] } ∷ []) fs) (sym z) (tt, tt, (λ q. (refl, small_most m.small (few N its gs asc hl hp enough)))),
+              (λ y. makes_holds m (stand its gs tree asc hl hp rooted)),
+            );
+      }
+
+    -- the same where no node is asked for
+    module _ (stand : (its : List Iter) (gs : List (Iter → List Cell)) → Ascends (λ i. i.number) 0 its → Holds s looped single (loop_rows its) → HoldAll s args gs its → Same rows (value_rows (λ i. list_of (value_in (call_answer docs site r gs i))) its)) where
+      pub quiet_call : CallLifts docs s s' site r looped args t
+      quiet_call = rooted_call (λ its gs tree asc hl hp rooted. stand its gs asc hl hp)
 
   -- a call of one argument that is its value but where a test fails with a code
   abbrev tests_of : ((Iter → List Cell) → Iter → Bool) → List (Iter → List Cell) → List (Iter → Bool)
@@ -131,84 +137,99 @@ module _ (docs : Docs) where
   module _ {s s1 s2 : State} (site : Site) (r : Rule) (looped a k : OpId) (code : Code) (b : List Row) (test : (Iter → List Cell) → Iter → Bool)
       (m : Makes s s1 k single (named_rows (at s looped).rows b) (length (at s looped).rows + length (at s a).rows))
       (h : Checks s1 s2 (record { op = k; code = code; offset = site.offset }))
-      (dynamic : is_dynamic code ≡ true) (no_step : own_walks site r ≡ [])
-      (marks : (its : List Iter) (g : Iter → List Cell) → Ascends (λ i. i.number) 0 its → Holds s looped single (loop_rows its) → Holds s a three (value_rows g its) → Marks b (test g) its)
-      (fails : (g : Iter → List Cell) (i : Iter) → fault_in (call_answer docs site r (g ∷ []) i) ≡ cond (test g i) (Some code) None)
-      (gives : (g : Iter → List Cell) (i : Iter) → test g i ≡ false → g i ≡ list_of (value_in (call_answer docs site r (g ∷ []) i))) where
-    abbrev the_check : Check
-    the_check = record { op = k; code = code; offset = site.offset }
+      (dynamic : is_dynamic code ≡ true) (no_step : own_walks site r ≡ []) where
+    module _ (marks : (its : List Iter) (g : Iter → List Cell) (tree : TreeId → Option (Tree Text)) → Ascends (λ i. i.number) 0 its → Holds s looped single (loop_rows its) → Holds s a three (value_rows g its) → AllOf (λ i. AllOf (Rooted tree) (g i)) its → Marks b (test g) its)
+        (fails : (g : Iter → List Cell) (i : Iter) → fault_in (call_answer docs site r (g ∷ []) i) ≡ cond (test g i) (Some code) None)
+        (gives : (g : Iter → List Cell) (i : Iter) → test g i ≡ false → g i ≡ list_of (value_in (call_answer docs site r (g ∷ []) i))) where
+      abbrev the_check : Check
+      the_check = record { op = k; code = code; offset = site.offset }
 
-    grown : Grows s s2 (the_check ∷ [])
-    grown = grows_trans m.grows h.grows
+      grown : Grows s s2 (the_check ∷ [])
+      grown = grows_trans m.grows h.grows
 
-    small_here : (N : ℕ) → length (at s looped).rows + op_sizes s (a ∷ []) ≤ N → AllOf (λ (j : List Row). length j ≤ N) [] → Small s2 (length s.tables) (length s2.tables) N
-    small_here N l e =
-        let q : length (at s looped).rows + length (at s a).rows ≤ N = omega arith in
-        subst (λ n. Small s2 (length s.tables) n N) (sym h.as_many) (small_keep h.grows (omega arith) (small_most m.small q))
+      small_here : (N : ℕ) → length (at s looped).rows + op_sizes s (a ∷ []) ≤ N → AllOf (λ (j : List Row). length j ≤ N) [] → Small s2 (length s.tables) (length s2.tables) N
+      small_here N l e =
+          let q : length (at s looped).rows + length (at s a).rows ≤ N = omega arith in
+          subst (λ n. Small s2 (length s.tables) n N) (sym h.as_many) (small_keep h.grows (omega arith) (small_most m.small q))
 
-    staged_here : Staged s2 (at s looped).rows (the_check ∷ []) (b ∷ [])
-    staged_here = (h.grows.same k m.is_in ∙ m.is, tt)
+      staged_here : Staged s2 (at s looped).rows (the_check ∷ []) (b ∷ [])
+      staged_here = (h.grows.same k m.is_in ∙ m.is, tt)
 
-    marked : (its : List Iter) (gs : List (Iter → List Cell)) (tree : TreeId → Option (Tree Text)) → Ascends (λ i. i.number) 0 its → Holds s looped single (loop_rows its) → HoldAll s (a ∷ []) gs its → AllOf (λ g. AllOf (λ i. AllOf (Rooted tree) (g i)) its) gs
-        → AllMark (b ∷ []) (tests_of test gs) its × AllOf (λ i. fault_in (call_answer docs site r gs i) ≡ first_code (the_check ∷ []) (tests_of test gs) i) its
-    marked its [] tree asc hl hp rooted = absurd hp
-    marked its (g ∷ []) tree asc hl hp rooted = ((marks its g asc hl hp.0, tt), all_each _ (λ i. fails g i) its)
-    marked its (g ∷ g' ∷ gs) tree asc hl hp rooted = absurd hp.1
+      marked : (its : List Iter) (gs : List (Iter → List Cell)) (tree : TreeId → Option (Tree Text)) → Ascends (λ i. i.number) 0 its → Holds s looped single (loop_rows its) → HoldAll s (a ∷ []) gs its → AllOf (λ g. AllOf (λ i. AllOf (Rooted tree) (g i)) its) gs
+          → AllMark (b ∷ []) (tests_of test gs) its × AllOf (λ i. fault_in (call_answer docs site r gs i) ≡ first_code (the_check ∷ []) (tests_of test gs) i) its
+      marked its [] tree asc hl hp rooted = absurd hp
+      marked its (g ∷ []) tree asc hl hp rooted = ((marks its g tree asc hl hp.0 rooted.0, tt), all_each _ (λ i. fails g i) its)
+      marked its (g ∷ g' ∷ gs) tree asc hl hp rooted = absurd hp.1
 
-    sized : (N : ℕ) (its : List Iter) (gs : List (Iter → List Cell)) → Ascends (λ i. i.number) 0 its → Holds s looped single (loop_rows its) → HoldAll s (a ∷ []) gs its → call_cost docs site r gs its ≤ N → AllOf (λ (j : List Row). length j ≤ N) []
-    sized N its gs asc hl hp enough = tt
+      sized : (N : ℕ) (its : List Iter) (gs : List (Iter → List Cell)) → Ascends (λ i. i.number) 0 its → Holds s looped single (loop_rows its) → HoldAll s (a ∷ []) gs its → call_cost docs site r gs its ≤ N → AllOf (λ (j : List Row). length j ≤ N) []
+      sized N its gs asc hl hp enough = tt
 
-    passed : (g : Iter → List Cell) (its : List Iter) → call_faults docs site r (g ∷ []) its ≡ [] → AllOf (λ i. g i ≡ list_of (value_in (call_answer docs site r (g ∷ []) i))) its
-    passed g its z =
-        all_mono _ _ (λ i (e : map (fault i.number) (faults_of (call_answer docs site r (g ∷ []) i) (failure site i.vector)) ≡ []).
-        gives g i (untested (test g i) code (sym (fails g i) ∙ is_value_of (call_answer docs site r (g ∷ []) i) (failure site i.vector) (unmap (fault i.number) _ e)))) its (flat_nil _ its z)
+      passed : (g : Iter → List Cell) (its : List Iter) → call_faults docs site r (g ∷ []) its ≡ [] → AllOf (λ i. g i ≡ list_of (value_in (call_answer docs site r (g ∷ []) i))) its
+      passed g its z =
+          all_mono _ _ (λ i (e : map (fault i.number) (faults_of (call_answer docs site r (g ∷ []) i) (failure site i.vector)) ≡ []).
+          gives g i (untested (test g i) code (sym (fails g i) ∙ is_value_of (call_answer docs site r (g ∷ []) i) (failure site i.vector) (unmap (fault i.number) _ e)))) its (flat_nil _ its z)
 
-    values : (its : List Iter) (gs : List (Iter → List Cell)) (tree : TreeId → Option (Tree Text)) → Ascends (λ i. i.number) 0 its → Holds s looped single (loop_rows its) → HoldAll s (a ∷ []) gs its → AllOf (λ g. AllOf (λ i. AllOf (Rooted tree) (g i)) its) gs
-        → call_faults docs site r gs its ≡ [] → Holds s2 a three (value_rows (λ i. list_of (value_in (call_answer docs site r gs i))) its)
-    values its [] tree asc hl hp rooted z = absurd hp
-    values its (g ∷ []) tree asc hl hp rooted z =
-        holds_keep grown (holds_rows (flat-all _ _ its (all_mono _ _ (λ i (e : g i ≡ list_of (value_in (call_answer docs site r (g ∷ []) i))). ap (item_rows i.number 1) e) its (passed g its z))) hp.0)
-    values its (g ∷ g' ∷ gs) tree asc hl hp rooted z = absurd hp.1
+      values : (its : List Iter) (gs : List (Iter → List Cell)) (tree : TreeId → Option (Tree Text)) → Ascends (λ i. i.number) 0 its → Holds s looped single (loop_rows its) → HoldAll s (a ∷ []) gs its → AllOf (λ g. AllOf (λ i. AllOf (Rooted tree) (g i)) its) gs
+          → call_faults docs site r gs its ≡ [] → Holds s2 a three (value_rows (λ i. list_of (value_in (call_answer docs site r gs i))) its)
+      values its [] tree asc hl hp rooted z = absurd hp
+      values its (g ∷ []) tree asc hl hp rooted z =
+          holds_keep grown (holds_rows (flat-all _ _ its (all_mono _ _ (λ i (e : g i ≡ list_of (value_in (call_answer docs site r (g ∷ []) i))). ap (item_rows i.number 1) e) its (passed g its z))) hp.0)
+      values its (g ∷ g' ∷ gs) tree asc hl hp rooted z = absurd hp.1
 
-    pub checked_call : CallLifts docs s s2 site r looped (a ∷ []) a
-    checked_call =
-        staged_call docs site r looped (a ∷ []) a (the_check ∷ []) (b ∷ []) [] (tests_of test) grown
-        (((let i = m.is_in in let n = h.as_many in omega arith), refl, dynamic), tt)
-        (record { added = []; steps_are = h.quiet ∙ m.quiet ∙ sym (append_none s.steps); walks_are = sym no_step; inputs = tt })
-        (tt, tt) small_here staged_here marked sized values
+      pub rooted_checked_call : CallLifts docs s s2 site r looped (a ∷ []) a
+      rooted_checked_call =
+          staged_call docs site r looped (a ∷ []) a (the_check ∷ []) (b ∷ []) [] (tests_of test) grown
+          (((let i = m.is_in in let n = h.as_many in omega arith), refl, dynamic), tt)
+          (record { added = []; steps_are = h.quiet ∙ m.quiet ∙ sym (append_none s.steps); walks_are = sym no_step; inputs = tt })
+          (tt, tt) small_here staged_here marked sized values
+
+    -- the same where no node is asked for
+    module _ (marks : (its : List Iter) (g : Iter → List Cell) → Ascends (λ i. i.number) 0 its → Holds s looped single (loop_rows its) → Holds s a three (value_rows g its) → Marks b (test g) its)
+        (fails : (g : Iter → List Cell) (i : Iter) → fault_in (call_answer docs site r (g ∷ []) i) ≡ cond (test g i) (Some code) None)
+        (gives : (g : Iter → List Cell) (i : Iter) → test g i ≡ false → g i ≡ list_of (value_in (call_answer docs site r (g ∷ []) i))) where
+      pub checked_call : CallLifts docs s s2 site r looped (a ∷ []) a
+      checked_call = rooted_checked_call (λ its g tree asc hl ha rooted. marks its g asc hl ha) fails gives
 
   -- a call whose value says whether its argument passes a test, by rows that name the iterations in which it does
-  module _ {s s' : State} (site : Site) (r : Rule) (there : Bool) (looped a t : OpId) (b : List Row) (test : (Iter → List Cell) → Iter → Bool) (most : ℕ) (no_step : own_walks site r ≡ [])
-      (marks : (its : List Iter) (g : Iter → List Cell) → Ascends (λ i. i.number) 0 its → Holds s looped single (loop_rows its) → Holds s a three (value_rows g its) → Marks b (test g) its)
-      (within : (N : ℕ) (its : List Iter) (g : Iter → List Cell) → Holds s looped single (loop_rows its) → Holds s a three (value_rows g its) → length (at s looped).rows + length (at s looped).rows + length (at s a).rows ≤ N → most ≤ N)
-      (value : (g : Iter → List Cell) (i : Iter) → call_answer docs site r (g ∷ []) i ≡ Value (BoolItem (cond (test g i) there (not there)) ∷ []))
-      (m : Makes s s' t three (truth_rows there (at s looped).rows b) most) where
-    truth_few : (N : ℕ) (its : List Iter) (gs : List (Iter → List Cell)) → Ascends (λ i. i.number) 0 its → Holds s looped single (loop_rows its) → HoldAll s (a ∷ []) gs its → call_cost docs site r gs its ≤ N → most ≤ N
-    truth_few N its [] asc hl hp enough = absurd hp
-    truth_few N its (g ∷ []) asc hl hp enough =
-        let x = same-length hl.rows_are ∙ size_loop its ∙ length-total its in
-        let y = same-length hp.0.rows_are ∙ size_cells g its in
-        let p = total-sum (λ (i : Iter). 1) (λ i. 1 + length (g i)) its in
-        let q = total-sum (λ (i : Iter). 1) (λ i. length (g i)) its in
-        let w = total_most (λ i. 1 + (1 + length (g i))) (λ i. 1 + (length (g i) + 0) + length (list_of (value_in (call_answer docs site r (g ∷ []) i))) + rule_work r (Some (g i ∷ [])) (value_in (call_answer docs site r (g ∷ []) i))) its
-        (λ i. let e : length (list_of (value_in (call_answer docs site r (g ∷ []) i))) ≡ 1 = ap (λ x. length (list_of (value_in x))) (value g i) in omega arith) in
-        within N its g hl hp.0 (omega arith)
-    truth_few N its (g ∷ g' ∷ gs) asc hl hp enough = absurd hp.1
+  module _ {s s' : State} (site : Site) (r : Rule) (there : Bool) (looped a t : OpId) (b : List Row) (test : (Iter → List Cell) → Iter → Bool) (most : ℕ) (no_step : own_walks site r ≡ []) where
+    module _ (marks : (its : List Iter) (g : Iter → List Cell) (tree : TreeId → Option (Tree Text)) → Ascends (λ i. i.number) 0 its → Holds s looped single (loop_rows its) → Holds s a three (value_rows g its) → AllOf (λ i. AllOf (Rooted tree) (g i)) its → Marks b (test g) its)
+        (within : (N : ℕ) (its : List Iter) (g : Iter → List Cell) → Holds s looped single (loop_rows its) → Holds s a three (value_rows g its) → length (at s looped).rows + length (at s looped).rows + length (at s a).rows ≤ N → most ≤ N)
+        (value : (g : Iter → List Cell) (i : Iter) → call_answer docs site r (g ∷ []) i ≡ Value (BoolItem (cond (test g i) there (not there)) ∷ []))
+        (m : Makes s s' t three (truth_rows there (at s looped).rows b) most) where
+      truth_few : (N : ℕ) (its : List Iter) (gs : List (Iter → List Cell)) → Ascends (λ i. i.number) 0 its → Holds s looped single (loop_rows its) → HoldAll s (a ∷ []) gs its → call_cost docs site r gs its ≤ N → most ≤ N
+      truth_few N its [] asc hl hp enough = absurd hp
+      truth_few N its (g ∷ []) asc hl hp enough =
+          let x = same-length hl.rows_are ∙ size_loop its ∙ length-total its in
+          let y = same-length hp.0.rows_are ∙ size_cells g its in
+          let p = total-sum (λ (i : Iter). 1) (λ i. 1 + length (g i)) its in
+          let q = total-sum (λ (i : Iter). 1) (λ i. length (g i)) its in
+          let w = total_most (λ i. 1 + (1 + length (g i))) (λ i. 1 + (length (g i) + 0) + length (list_of (value_in (call_answer docs site r (g ∷ []) i))) + rule_work r (Some (g i ∷ [])) (value_in (call_answer docs site r (g ∷ []) i))) its
+          (λ i. let e : length (list_of (value_in (call_answer docs site r (g ∷ []) i))) ≡ 1 = ap (λ x. length (list_of (value_in x))) (value g i) in omega arith) in
+          within N its g hl hp.0 (omega arith)
+      truth_few N its (g ∷ g' ∷ gs) asc hl hp enough = absurd hp.1
 
-    truth_calm : (gs : List (Iter → List Cell)) (its : List Iter) → HoldAll s (a ∷ []) gs its → AllOf (λ i. fault_in (call_answer docs site r gs i) ≡ None) its
-    truth_calm [] its hp = absurd hp
-    truth_calm (g ∷ []) its hp = all_each _ (λ i. ap fault_in (value g i)) its
-    truth_calm (g ∷ g' ∷ gs) its hp = absurd hp.1
+      truth_calm : (gs : List (Iter → List Cell)) (its : List Iter) → HoldAll s (a ∷ []) gs its → AllOf (λ i. fault_in (call_answer docs site r gs i) ≡ None) its
+      truth_calm [] its hp = absurd hp
+      truth_calm (g ∷ []) its hp = all_each _ (λ i. ap fault_in (value g i)) its
+      truth_calm (g ∷ g' ∷ gs) its hp = absurd hp.1
 
-    truth_told : (its : List Iter) (gs : List (Iter → List Cell)) → Ascends (λ i. i.number) 0 its → Holds s looped single (loop_rows its) → HoldAll s (a ∷ []) gs its → Same (truth_rows there (at s looped).rows b) (value_rows (λ i. list_of (value_in (call_answer docs site r gs i))) its)
-    truth_told its [] asc hl hp = absurd hp
-    truth_told its (g ∷ []) asc hl hp =
-        same-trans (truth_stands there (test g) its _ _ asc hl.rows_are (marks its g asc hl hp.0))
-        (same-of (flat-all _ _ its (all_each _ (λ i. ap (λ x. item_rows i.number 1 (list_of (value_in x))) (sym (value g i))) its)))
-    truth_told its (g ∷ g' ∷ gs) asc hl hp = absurd hp.1
+      truth_told : (its : List Iter) (gs : List (Iter → List Cell)) (tree : TreeId → Option (Tree Text)) → Ascends (λ i. i.number) 0 its → Holds s looped single (loop_rows its) → HoldAll s (a ∷ []) gs its → AllOf (λ g. AllOf (λ i. AllOf (Rooted tree) (g i)) its) gs → Same (truth_rows there (at s looped).rows b) (value_rows (λ i. list_of (value_in (call_answer docs site r gs i))) its)
+      truth_told its [] tree asc hl hp rooted = absurd hp
+      truth_told its (g ∷ []) tree asc hl hp rooted =
+          same-trans (truth_stands there (test g) its _ _ asc hl.rows_are (marks its g tree asc hl hp.0 rooted.0))
+          (same-of (flat-all _ _ its (all_each _ (λ i. ap (λ x. item_rows i.number 1 (list_of (value_in x))) (sym (value g i))) its)))
+      truth_told its (g ∷ g' ∷ gs) tree asc hl hp rooted = absurd hp.1
 
-    pub truth_call : CallLifts docs s s' site r looped (a ∷ []) t
-    truth_call = quiet_call site r looped (a ∷ []) t _ _ m no_step truth_few truth_calm truth_told
+      pub rooted_truth_call : CallLifts docs s s' site r looped (a ∷ []) t
+      rooted_truth_call = rooted_call site r looped (a ∷ []) t _ _ m no_step truth_few truth_calm truth_told
+
+    -- the same where no node is asked for
+    module _ (marks : (its : List Iter) (g : Iter → List Cell) → Ascends (λ i. i.number) 0 its → Holds s looped single (loop_rows its) → Holds s a three (value_rows g its) → Marks b (test g) its)
+        (within : (N : ℕ) (its : List Iter) (g : Iter → List Cell) → Holds s looped single (loop_rows its) → Holds s a three (value_rows g its) → length (at s looped).rows + length (at s looped).rows + length (at s a).rows ≤ N → most ≤ N)
+        (value : (g : Iter → List Cell) (i : Iter) → call_answer docs site r (g ∷ []) i ≡ Value (BoolItem (cond (test g i) there (not there)) ∷ []))
+        (m : Makes s s' t three (truth_rows there (at s looped).rows b) most) where
+      pub truth_call : CallLifts docs s s' site r looped (a ∷ []) t
+      truth_call = rooted_truth_call (λ its g tree asc hl ha rooted. marks its g asc hl ha) within value m
 
   if_same : (d : Bool) → cond d true false ≡ d
   if_same true = refl

@@ -58,7 +58,7 @@ module _ (docs : Docs) where
   known_rooted W fw (TextItem t) k = tt
   known_rooted W fw (UntypedItem t) k = tt
   known_rooted W fw (BoolItem b) k = tt
-  known_rooted W fw (NodeItem n) k = tree_rooted W fw n.id n.tree k
+  known_rooted W fw (NodeItem n) k = (tree_rooted W fw n.id n.tree k.0, k.1)
 
   pub knowns_rooted : (W : World) → Faithful W → (vs : Items) → AllOf (Known docs W) vs → AllOf (Rooted (tree_under docs W)) (map (cell_of W) vs)
   knowns_rooted W fw vs a = all-map (Rooted (tree_under docs W)) (cell_of W) vs (all_mono _ _ (λ v (k : Known docs W v). known_rooted W fw v k) vs a)

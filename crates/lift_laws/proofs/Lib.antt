@@ -49,6 +49,16 @@ pub mod ConcatCase
 pub mod SortedRows
 pub mod AggregateCase
 pub mod TypeCase
+pub mod EmptyTypeCase
+pub mod Arguments
+pub mod ReadingCase
+pub mod RangeCase
+pub mod SumCase
+pub mod PartCase
+pub mod JoinCase
+pub mod Tested
+pub mod ConversionCase
+pub mod StrictCastCase
 pub mod CallCase
 pub mod Reaching
 pub mod Fairness

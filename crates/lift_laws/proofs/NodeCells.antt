@@ -1,16 +1,16 @@
 -- Nodes and their cells have the same equality and the same order, so that nodes in document order are the same over cells.
-use Rattle.std.proofs.Common.{◌≡◌, ℕ, Bool, true, false, cond, not, ◌&&◌, ◌||◌, List, [], ◌∷◌, ◌++◌, map, refl, sym, ap, ◌∙◌, subst, ⊎_elim, nat_eq, nat_lt}
+use Rattle.std.proofs.Common.{◌≡◌, ℕ, Bool, true, false, cond, not, ◌&&◌, ◌||◌, List, [], ◌∷◌, ◌++◌, map, refl, sym, ap, ◌∙◌, subst, ⊎_elim, nat_eq, nat_lt, Option, Some, None}
 use Rattle.std.specs.List.{filter, flat_map}
-use Rattle.std.proofs.lemmas.Bool.{lt-ltb, eqb-true}
-use Rattle.xq_base.specs.Texts.{Text}
+use Rattle.std.proofs.lemmas.Bool.{and_parts, lt-ltb, eqb-true}
+use Rattle.xq_base.specs.Texts.{Text, text_eq}
 use Rattle.xq_base.specs.declared.axis.Axis.{Axis}
-use Rattle.doc_table.specs.Paths.{Path, is_same, is_less, path_eq, path_less}
-use Rattle.doc_table.specs.Tree.{Tree}
-use Rattle.doc_table.specs.Axes.{Test}
+use Rattle.doc_table.specs.Paths.{Path, is_same, is_less, path_eq, path_less, label_at, is_some_label, has_node}
+use Rattle.doc_table.specs.Tree.{Label, Tree}
+use Rattle.doc_table.specs.Axes.{Test, on_axis, selects_label, steps_to}
 use Rattle.doc_table.specs.Identity.{TreeId, DocTree, BuiltTree, Node, tree_id_eq, tree_id_less, node_eq, node_less}
 use Rattle.doc_table.specs.Items.{Item, IntItem, TextItem, UntypedItem, BoolItem, NodeItem}
 use Rattle.doc_table.specs.Orders.{has, put, put_once, once}
-use Rattle.doc_table.specs.Nodes.{node_in_tree}
+use Rattle.doc_table.specs.Nodes.{node_in_tree, node_paths}
 use Rattle.doc_table.specs.Values.{Items, is_node, all_nodes, no_node}
 use Rattle.doc_table.specs.Steps.{found, nodes_in, items_at, in_document_order}
 use Rattle.doc_table.specs.NodeRules.{Docs, those_in, those_not_in}
@@ -18,7 +18,7 @@ use Rattle.doc_table.proofs.StrictOrders.{lists_order, is_same-self}
 use Rattle.lift_laws.specs.Sums.{AllOf}
 use Rattle.lift_laws.specs.Iterations.{Iter}
 use Rattle.lift_laws.specs.Worlds.{World, number_in, id_in, cell_of, Among, Comes, Known, KnownTree, InStep, Faithful}
-use Rattle.lift_laws.proofs.Picks.{all_each, all_mono, all-append, all-map, map-append}
+use Rattle.lift_laws.proofs.Picks.{all_mono, all-append, all-map, map-append}
 use Rattle.lift_laws.proofs.ChoiceCase.{keep_hold}
 use Rattle.lift_laws.proofs.Known.{Behind, behind, number_found}
 
@@ -141,9 +141,25 @@ all_found_cells W axis test (n ∷ ns) =
     ∙ ap (λ l. map (cell_node W) (found axis test n) ++ l) (all_found_cells W axis test ns)
     ∙ sym (map-append (cell_node W) (found axis test n) (flat_map (found axis test) ns))
 
+-- a step goes to nodes that stand in the tree
+all_passed : {A : Type 0} (p : A → Bool) (xs : List A) → AllOf (λ x. p x ≡ true) (filter p xs)
+all_passed p [] = tt
+all_passed p (x ∷ xs) = go (p x) refl (all_passed p xs)
+  where
+    go : (b : Bool) → p x ≡ b → AllOf (λ y. p y ≡ true) (filter p xs) → AllOf (λ y. p y ≡ true) (cond b (x ∷ filter p xs) (filter p xs))
+    go true e r = (e, r)
+    go false e r = r
+
+selected : (axis : Axis) (test : Test Text) (n : Node Text) (p : Path) → steps_to text_eq axis test n.tree n.path p ≡ true → has_node n.tree p ≡ true
+selected axis test n p e = go (label_at n.tree p) (and_parts (on_axis axis n.path p) (selects_label text_eq axis test (label_at n.tree p)) e).1
+  where
+    go : (o : Option (Label Text)) → selects_label text_eq axis test o ≡ true → is_some_label o ≡ true
+    go None q = q
+    go (Some l) q = refl
+
 module _ (docs : Docs) (W : World) where
   abbrev pub KnownNode : Node Text → Type 0
-  KnownNode n = KnownTree docs W n.id n.tree
+  KnownNode n = KnownTree docs W n.id n.tree × (has_node n.tree n.path ≡ true)
 
   pub known_in : (vs : Items) → AllOf (Known docs W) vs → AllOf KnownNode (nodes_in vs)
   known_in [] a = tt
@@ -159,7 +175,7 @@ module _ (docs : Docs) (W : World) where
 
   pub known_found : (axis : Axis) (test : Test Text) (ns : List (Node Text)) → AllOf KnownNode ns → AllOf KnownNode (flat_map (found axis test) ns)
   known_found axis test [] a = tt
-  known_found axis test (n ∷ ns) a = all-append KnownNode (found axis test n) (flat_map (found axis test) ns) (all-map KnownNode (node_in_tree n) _ (all_each _ (λ p. a.0) _)) (known_found axis test ns a.1)
+  known_found axis test (n ∷ ns) a = all-append KnownNode (found axis test n) (flat_map (found axis test) ns) (all-map KnownNode (node_in_tree n) (filter (steps_to text_eq axis test n.tree n.path) (node_paths n.tree)) (all_mono _ _ (λ p (e : steps_to text_eq axis test n.tree n.path p ≡ true). let k : KnownNode (node_in_tree n p) = (a.0.0, selected axis test n p e) in k) (filter (steps_to text_eq axis test n.tree n.path) (node_paths n.tree)) (all_passed (steps_to text_eq axis test n.tree n.path) (node_paths n.tree)))) (known_found axis test ns a.1)
 
   pub union_cells : (ms ns : List (Node Text)) → AllOf KnownNode ms → AllOf KnownNode ns → ((map (cell_node W) ms ++ map (cell_node W) ns) ≡ map (cell_node W) (ms ++ ns)) × AllOf KnownNode (ms ++ ns)
   union_cells ms ns a b = (sym (map-append (cell_node W) ms ns), all-append KnownNode ms ns a b)
@@ -193,7 +209,7 @@ module _ (docs : Docs) (W : World) where
 
     pub nodes_kept : (m n : Node Text) → KnownNode m → KnownNode n → (node_eq (cell_node W m) (cell_node W n) ≡ node_eq m n) × (node_less (cell_node W m) (cell_node W n) ≡ node_less m n)
     nodes_kept m n k l =
-        let h = ids_kept m.id n.id m.tree n.tree k l in (
+        let h = ids_kept m.id n.id m.tree n.tree k.0 l.0 in (
           ap (λ b. b && path_eq m.path n.path) h.0,
           ap (λ b. b || (tree_id_eq (id_in W m.id) (id_in W n.id) && path_less m.path n.path)) h.1 ∙ ap (λ b. tree_id_less m.id n.id || (b && path_less m.path n.path)) h.0,
         )

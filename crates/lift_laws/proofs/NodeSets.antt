@@ -79,7 +79,7 @@ canon_same tree q r e =
 
 known_rows : (tree : TreeId → Option (Tree Text)) (ms : List (Node Text)) → AllOf (λ (m : Node Text). Rooted tree (NodeItem m)) ms → AllOf (λ (m : Node Text). (n : ℕ) → canon tree (node_row n m) ≡ node_row n m) ms
 known_rows tree [] h = tt
-known_rows tree (m ∷ ms) h = ((λ n. ap (λ v. num n ∷ v ∷ []) (known_node tree m h.0)), known_rows tree ms h.1)
+known_rows tree (m ∷ ms) h = ((λ n. ap (λ v. num n ∷ v ∷ []) (known_node tree m h.0.0)), known_rows tree ms h.1)
 
 -- each node once in its iteration, by document order
 each_once_stands : (tree : TreeId → Option (Tree Text)) (ns : Iter → List (Node Text)) (its : List Iter) (rs : List Row) → Ascends (λ i. i.number) 0 its → Same rs (flat_map (λ i. map (node_row i.number) (ns i)) its)

@@ -12,7 +12,7 @@ use Rattle.lift_laws.specs.Sums.{total, AllOf, Ascends, Same}
 use Rattle.lift_laws.specs.Iterations.{Row, Iter, num, item_rows, value_rows, loop_rows}
 use Rattle.lift_laws.specs.States.{column, three}
 use Rattle.lift_laws.specs.Shapes.{bare, pair, columns, pick, less, cleared, second_rows, restrict_rows}
-use Rattle.lift_laws.specs.Pairs.{PairCode, OfEach, OfBoth, fit_loop, beside_cols, both_rows, both_cells, both_fail_rows, own_fail_rows, code_tables, gathered, pair_value_rows, filled_rows}
+use Rattle.lift_laws.specs.Pairs.{PairCode, OfEach, OfBoth, fit_loop, beside_cols, side_rows, both_rows, both_cells, both_fail_rows, own_fail_rows, code_tables, gathered, side_value_rows, pair_value_rows, filled_rows}
 use Rattle.lift_laws.proofs.Multi.{same-of, same-trans, same-map, same-flat, same-length, length-total, total-flat, total-keep, total-sum}
 use Rattle.lift_laws.proofs.Picks.{all_each, all-map, flat-all, flat-flat, map-flat}
 use Rattle.lift_laws.proofs.Loops.{same-join, rows_key}
@@ -28,7 +28,7 @@ pub marks_gathered : (bs : List (List Row)) (ps : List (Iter → Bool)) (its : L
 marks_gathered bs ps its l asc sl m =
     marks_loop (λ i. not (none_of ps i)) its _ asc (unmarked_stands (none_of ps) its l _ sl (marks_loop (none_of ps) its _ asc (cleared_stands bs ps its l sl m)))
 
-abbrev fit : List Cell → List Cell → Bool
+abbrev pub fit : List Cell → List Cell → Bool
 fit us vs = not (has_two us) && (not (has_two vs) && true)
 
 -- both items beside each other, where each operand has one
@@ -39,14 +39,14 @@ side_at n (u ∷ []) (v ∷ []) = (num n ∷ num 1 ∷ u ∷ num n ∷ v ∷ [])
 side_at n (u ∷ []) (v ∷ w ∷ vs) = []
 side_at n (u ∷ w ∷ us) vs = []
 
-abbrev moved : Row → Row
+abbrev pub moved : Row → Row
 moved r = pick three (pair 4 0 ∷ pair 5 2 ∷ []) r
 
 moved_key : (n k : ℕ) (vs : List Cell) → AllOf (λ r. cell bare (columns (4 ∷ 5 ∷ [])) (column 4) (moved r) ≡ num n) (item_rows n k vs)
 moved_key n k [] = tt
 moved_key n k (v ∷ vs) = (refl, moved_key n (k + 1) vs)
 
-abbrev lefts : Bool → ℕ → List Cell → List Row
+abbrev pub lefts : Bool → ℕ → List Cell → List Row
 lefts b n us = cond b (item_rows n 1 us) []
 
 left_key : (b : Bool) (n : ℕ) (us : List Cell) → AllOf (λ r. cell bare three (column 0) r ≡ num n) (lefts b n us)
@@ -103,6 +103,86 @@ given_at f (u ∷ []) (v ∷ []) = given (bare.value f (u ∷ v ∷ []))
 given_at f (u ∷ []) (v ∷ w ∷ vs) = []
 given_at f (u ∷ w ∷ us) vs = []
 
+joined_if : (b : Bool) (n : ℕ) (us vs : List Cell) → (b ≡ true → fit us vs ≡ true) → flat_map (λ l. map (λ r. l ++ r) (map moved (item_rows n 1 vs))) (lefts b n us) ≡ cond b (side_at n us vs) []
+joined_if true n us vs k = ap (λ b. flat_map (λ l. map (λ r. l ++ r) (map moved (item_rows n 1 vs))) (lefts b n us)) (sym (k refl)) ∙ joined_at n us vs
+joined_if false n us vs k = refl
+
+side_few : (n : ℕ) (us vs : List Cell) → total (λ (r : Row). 1) (side_at n us vs) ≤ 1
+side_few n [] vs = omega arith
+side_few n (u ∷ []) [] = omega arith
+side_few n (u ∷ []) (v ∷ []) = omega arith
+side_few n (u ∷ []) (v ∷ w ∷ vs) = omega arith
+side_few n (u ∷ w ∷ us) vs = omega arith
+
+-- in any iterations
+module _ (p : Iter → Bool) (g h : Iter → List Cell) (its : List Iter) (m a b : List Row) (asc : Ascends (λ i. i.number) 0 its) (sm : Same m (loop_rows (filter p its))) (sa : Same a (value_rows g its)) (sb : Same b (value_rows h its)) where
+  pub sided_left : Same (restrict_rows m a) (value_rows g (filter p its))
+  sided_left = restrict_stands p g its _ a asc sm sa
+
+  pub sides_join : Same (side_rows m a b) (flat_map (λ i. flat_map (λ l. map (λ r. l ++ r) (map moved (item_rows i.number 1 (h i)))) (lefts (p i) i.number (g i))) its)
+  sides_join =
+      let L = λ (i : Iter). lefts (p i) i.number (g i) in
+      let R = λ (i : Iter). map moved (item_rows i.number 1 (h i)) in
+      let left = same-trans sided_left (same-of (kept_apart p g its)) in
+      let right = same-trans (same-map moved sb) (same-of (map-flat moved (λ i. item_rows i.number 1 (h i)) its)) in
+      same-trans (same-join three (columns (4 ∷ 5 ∷ [])) (column 0) (column 4) left right)
+      (join_iters (cell bare three (column 0)) (cell bare (columns (4 ∷ 5 ∷ [])) (column 4)) L R its asc (λ i. left_key (p i) i.number (g i)) (λ i. all-map _ moved (item_rows i.number 1 (h i)) (moved_key i.number 1 (h i))))
+
+  pub few_sided_left : length (restrict_rows m a) ≤ length a
+  few_sided_left =
+      let x = same-length sided_left ∙ size_cells g (filter p its) ∙ total-keep (λ i. length (g i)) p its in
+      let y = same-length sa ∙ size_cells g its in
+      let k = total_most (λ i. cond (p i) (length (g i)) 0) (λ i. length (g i)) its (λ i. no_more (p i) (length (g i))) in
+      omega arith
+    where
+      no_more : (b : Bool) (n : ℕ) → cond b n 0 ≤ n
+      no_more true n = omega arith
+      no_more false n = omega arith
+
+-- in those in which no operand has a second item
+module _ (p : Iter → Bool) (g h : Iter → List Cell) (its : List Iter) (m a b : List Row) (asc : Ascends (λ i. i.number) 0 its) (sm : Same m (loop_rows (filter p its))) (sa : Same a (value_rows g its)) (sb : Same b (value_rows h its))
+    (fits : (i : Iter) → p i ≡ true → fit (g i) (h i) ≡ true) where
+  pub sides_stand : Same (side_rows m a b) (flat_map (λ i. cond (p i) (side_at i.number (g i) (h i)) []) its)
+  sides_stand = same-trans (sides_join p g h its m a b asc sm sa sb) (same-of (flat-all _ _ its (all_each _ (λ i. joined_if (p i) i.number (g i) (h i) (fits i)) its)))
+
+  pub few_sides : length (side_rows m a b) ≤ length its
+  few_sides =
+      let side = λ (i : Iter). cond (p i) (side_at i.number (g i) (h i)) [] in
+      let x = same-length sides_stand ∙ length-total (flat_map side its) ∙ total-flat (λ r. 1) side its in
+      let y = total_most (λ i. total (λ (r : Row). 1) (side i)) (λ i. 1) its (λ i. one (p i) i) in
+      let z = length-total its in
+      omega arith
+    where
+      one : (d : Bool) (i : Iter) → total (λ (r : Row). 1) (cond d (side_at i.number (g i) (h i)) []) ≤ 1
+      one true i = side_few i.number (g i) (h i)
+      one false i = omega arith
+
+given_side : (f : Fun) (n : ℕ) (us vs : List Cell) → map out (flat_map (with_both f) (side_at n us vs)) ≡ item_rows n 1 (given_at f us vs)
+given_side f n [] vs = refl
+given_side f n (u ∷ []) [] = refl
+given_side f n (u ∷ []) (v ∷ []) = shown (bare.value f (u ∷ v ∷ []))
+  where
+    shown : (x : Outcome Cell) → map out (map (λ y. (num n ∷ num 1 ∷ u ∷ num n ∷ v ∷ []) ++ y ∷ []) (given x) ++ []) ≡ item_rows n 1 (given x)
+    shown (Gives y) = refl
+    shown (Fails d) = refl
+    shown Silent = refl
+given_side f n (u ∷ []) (v ∷ w ∷ vs) = refl
+given_side f n (u ∷ w ∷ us) vs = refl
+
+-- what a function gives of both items, in these iterations
+pub side_values_stand : (f : Fun) (p : Iter → Bool) (g h : Iter → List Cell) (its : List Iter) (j : List Row) → Same j (flat_map (λ i. cond (p i) (side_at i.number (g i) (h i)) []) its)
+    → Same (side_value_rows f j) (value_rows (λ i. cond (p i) (given_at f (g i) (h i)) []) its)
+side_values_stand f p g h its j s =
+    let side = λ (i : Iter). cond (p i) (side_at i.number (g i) (h i)) [] in
+    same-trans (same-map out (same-flat (with_both f) s))
+    (same-of (ap (map out) (flat-flat (with_both f) side its)
+    ∙ map-flat out (λ i. flat_map (with_both f) (side i)) its
+    ∙ flat-all _ _ its (all_each _ (λ i. told (p i) i) its)))
+  where
+    told : (d : Bool) (i : Iter) → map out (flat_map (with_both f) (cond d (side_at i.number (g i) (h i)) [])) ≡ item_rows i.number 1 (cond d (given_at f (g i) (h i)) [])
+    told true i = given_side f i.number (g i) (h i)
+    told false i = refl
+
 module _ (g h : Iter → List Cell) (its : List Iter) (l a b : List Row) (asc : Ascends (λ i. i.number) 0 its) (sl : Same l (loop_rows its)) (sa : Same a (value_rows g its)) (sb : Same b (value_rows h its)) where
   abbrev fits : Iter → Bool
   fits i = fit (g i) (h i)
@@ -110,43 +190,29 @@ module _ (g h : Iter → List Cell) (its : List Iter) (l a b : List Row) (asc : 
   fit_stands : Same (fit_loop l a b) (loop_rows (filter fits its))
   fit_stands = cleared_stands (second_rows a ∷ second_rows b ∷ []) ((λ i. has_two (g i)) ∷ (λ i. has_two (h i)) ∷ []) its l sl (marks_second g its a asc sa, (marks_second h its b asc sb, tt))
 
-  lefts_stand : Same (restrict_rows (fit_loop l a b) a) (value_rows g (filter fits its))
-  lefts_stand = restrict_stands fits g its _ a asc fit_stands sa
+  fit_here : (i : Iter) → fits i ≡ true → fit (g i) (h i) ≡ true
+  fit_here i e = e
+
+  only_fit : (n : ℕ) (us vs : List Cell) → cond (fit us vs) (side_at n us vs) [] ≡ side_at n us vs
+  only_fit n [] [] = refl
+  only_fit n [] (v ∷ []) = refl
+  only_fit n [] (v ∷ w ∷ vs) = refl
+  only_fit n (u ∷ []) [] = refl
+  only_fit n (u ∷ []) (v ∷ []) = refl
+  only_fit n (u ∷ []) (v ∷ w ∷ vs) = refl
+  only_fit n (u ∷ w ∷ us) vs = refl
+
+  sided : Same (both_rows l a b) (flat_map (λ i. cond (fits i) (side_at i.number (g i) (h i)) []) its)
+  sided = sides_stand fits g h its _ a b asc fit_stands sa sb fit_here
 
   both_stand : Same (both_rows l a b) (flat_map (λ i. side_at i.number (g i) (h i)) its)
-  both_stand =
-      let L = λ (i : Iter). lefts (fits i) i.number (g i) in
-      let R = λ (i : Iter). map moved (item_rows i.number 1 (h i)) in
-      let left = same-trans lefts_stand (same-of (kept_apart fits g its)) in
-      let right = same-trans (same-map moved sb) (same-of (map-flat moved (λ i. item_rows i.number 1 (h i)) its)) in
-      same-trans (same-join three (columns (4 ∷ 5 ∷ [])) (column 0) (column 4) left right)
-      (same-trans (join_iters (cell bare three (column 0)) (cell bare (columns (4 ∷ 5 ∷ [])) (column 4)) L R its asc (λ i. left_key (fits i) i.number (g i)) (λ i. all-map _ moved (item_rows i.number 1 (h i)) (moved_key i.number 1 (h i))))
-      (same-of (flat-all _ _ its (all_each _ (λ i. joined_at i.number (g i) (h i)) its))))
+  both_stand = same-trans sided (same-of (flat-all _ _ its (all_each _ (λ i. only_fit i.number (g i) (h i)) its)))
 
   pub few_left : length (restrict_rows (fit_loop l a b) a) ≤ length a
-  few_left =
-      let x = same-length lefts_stand ∙ size_cells g (filter fits its) ∙ total-keep (λ i. length (g i)) fits its in
-      let y = same-length sa ∙ size_cells g its in
-      let k = total_most (λ i. cond (fits i) (length (g i)) 0) (λ i. length (g i)) its (λ i. no_more (fits i) (length (g i))) in
-      omega arith
-    where
-      no_more : (b : Bool) (n : ℕ) → cond b n 0 ≤ n
-      no_more true n = omega arith
-      no_more false n = omega arith
+  few_left = few_sided_left fits g h its _ a b asc fit_stands sa sb
 
   pub few_both : length (both_rows l a b) ≤ length its
-  few_both =
-      let x = same-length both_stand ∙ length-total (flat_map (λ i. side_at i.number (g i) (h i)) its) ∙ total-flat (λ r. 1) (λ i. side_at i.number (g i) (h i)) its in
-      let y = total_most (λ i. total (λ (r : Row). 1) (side_at i.number (g i) (h i))) (λ i. 1) its (λ i. one i.number (g i) (h i)) in
-      let z = length-total its in
-      omega arith
-    where
-      one : (n : ℕ) (us vs : List Cell) → total (λ (r : Row). 1) (side_at n us vs) ≤ 1
-      one n [] vs = omega arith
-      one n (u ∷ []) [] = omega arith
-      one n (u ∷ []) (v ∷ []) = omega arith
-      one n (u ∷ []) (v ∷ w ∷ vs) = omega arith
-      one n (u ∷ w ∷ us) vs = omega arith
+  few_both = few_sides fits g h its _ a b asc fit_stands sa sb fit_here
 
   pub marks_both : (f : Fun) (d : Code) → Marks (both_fail_rows f d (both_rows l a b)) (λ i. both_hit f d (g i) (h i)) its
   marks_both f d =
@@ -200,23 +266,16 @@ module _ (g h : Iter → List Cell) (its : List Iter) (l a b : List Row) (asc : 
       (marks_second g its a asc sa, (marks_second h its b asc sb, (marks_both f d, tt)))
 
   pub pair_values_stand : (f : Fun) → Same (pair_value_rows f l a b) (value_rows (λ i. given_at f (g i) (h i)) its)
-  pair_values_stand f =
-      same-trans (same-map out (same-flat (with_both f) both_stand))
-      (same-of (ap (map out) (flat-flat (with_both f) (λ i. side_at i.number (g i) (h i)) its)
-      ∙ map-flat out (λ i. flat_map (with_both f) (side_at i.number (g i) (h i))) its
-      ∙ flat-all _ _ its (all_each _ (λ i. told i.number (g i) (h i)) its)))
+  pair_values_stand f = same-trans (side_values_stand f fits g h its _ sided) (same-of (flat-all _ _ its (all_each _ (λ i. ap (item_rows i.number 1) (only_given (g i) (h i))) its)))
     where
-      told : (n : ℕ) (us vs : List Cell) → map out (flat_map (with_both f) (side_at n us vs)) ≡ item_rows n 1 (given_at f us vs)
-      told n [] vs = refl
-      told n (u ∷ []) [] = refl
-      told n (u ∷ []) (v ∷ []) = shown (bare.value f (u ∷ v ∷ []))
-        where
-          shown : (x : Outcome Cell) → map out (map (λ y. (num n ∷ num 1 ∷ u ∷ num n ∷ v ∷ []) ++ y ∷ []) (given x) ++ []) ≡ item_rows n 1 (given x)
-          shown (Gives y) = refl
-          shown (Fails d) = refl
-          shown Silent = refl
-      told n (u ∷ []) (v ∷ w ∷ vs) = refl
-      told n (u ∷ w ∷ us) vs = refl
+      only_given : (us vs : List Cell) → cond (fit us vs) (given_at f us vs) [] ≡ given_at f us vs
+      only_given [] [] = refl
+      only_given [] (v ∷ []) = refl
+      only_given [] (v ∷ w ∷ vs) = refl
+      only_given (u ∷ []) [] = refl
+      only_given (u ∷ []) (v ∷ []) = refl
+      only_given (u ∷ []) (v ∷ w ∷ vs) = refl
+      only_given (u ∷ w ∷ us) vs = refl
 
 -- an operand, with an item where it has none
 abbrev pub fill : Cell → List Cell → List Cell

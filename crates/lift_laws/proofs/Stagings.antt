@@ -133,7 +133,7 @@ module _ (docs : Docs) (s s1 s2 : State) (site : Site) (r : Rule) (looped : OpId
     (within : (N : ℕ) → length (at s looped).rows + op_sizes s args ≤ N → AllOf (λ (j : List Row). length j ≤ N) mids → (most ≤ N) × (many ≤ N))
     (told : (its : List Iter) (gs : List (Iter → List Cell)) (tree : TreeId → Option (Tree Text)) → Ascends (λ i. i.number) 0 its → Holds s looped single (loop_rows its) → HoldAll s args gs its → AllOf (λ g. AllOf (λ i. AllOf (Rooted tree) (g i)) its) gs
     → AllMark (marked_rows ms) (tests gs) its × AllOf (λ i. fault_in (call_answer docs site r gs i) ≡ first_coded (map first_mark ms) (tests gs) i) its)
-    (few : (its : List Iter) (gs : List (Iter → List Cell)) → Ascends (λ i. i.number) 0 its → Holds s looped single (loop_rows its) → HoldAll s args gs its → AllOf (λ (j : List Row). length j ≤ length (at s looped).rows + op_sizes s args) mids)
+    (sized : (N : ℕ) (its : List Iter) (gs : List (Iter → List Cell)) → Ascends (λ i. i.number) 0 its → Holds s looped single (loop_rows its) → HoldAll s args gs its → call_cost docs site r gs its ≤ N → AllOf (λ (j : List Row). length j ≤ N) mids)
     (value : (its : List Iter) (gs : List (Iter → List Cell)) (tree : TreeId → Option (Tree Text)) → Ascends (λ i. i.number) 0 its → Holds s looped single (loop_rows its) → HoldAll s args gs its → AllOf (λ g. AllOf (λ i. AllOf (Rooted tree) (g i)) its) gs
     → call_faults docs site r gs its ≡ [] → Same rows (value_rows (λ i. list_of (value_in (call_answer docs site r gs i))) its)) where
   grown : Grows s1 s2 cs
@@ -153,17 +153,30 @@ module _ (docs : Docs) (s s1 s2 : State) (site : Site) (r : Rule) (looped : OpId
       let k = told its gs tree asc hl hp rooted in
       (k.0, all_mono _ _ (λ i (e : fault_in (call_answer docs site r gs i) ≡ first_coded (map first_mark ms) (tests gs) i). e ∙ sym (first_is cs (map first_mark ms) (tests gs) i codes)) its k.1)
 
-  sized : (N : ℕ) (its : List Iter) (gs : List (Iter → List Cell)) → Ascends (λ i. i.number) 0 its → Holds s looped single (loop_rows its) → HoldAll s args gs its → call_cost docs site r gs its ≤ N → AllOf (λ (j : List Row). length j ≤ N) mids
-  sized N its gs asc hl hp enough =
-      let l = args_few docs s site r looped args N its gs hl hp enough in
-      all_mono _ _ (λ (j : List Row) (k : length j ≤ length (at s looped).rows + op_sizes s args). let q : length j ≤ N = omega arith in q) mids (few its gs asc hl hp)
-
-  pub stages_call : CallLifts docs s s2 site r looped args t
-  stages_call =
+  pub stages_within : CallLifts docs s s2 site r looped args t
+  stages_within =
       staged_call docs site r looped args t cs (marked_rows ms) mids tests (grows_trans m.grows grown) (stages_placed site many s1 s2 (at s looped).rows ms cs dynamic st)
       (record { added = []; steps_are = stages_quiet site many s1 s2 (at s looped).rows ms cs st ∙ m.quiet ∙ sym (append_none s.steps); walks_are = sym no_step; inputs = tt })
       (ordered cs (map first_mark ms) codes ranked) small_here (stages_staged site many s1 s2 (at s looped).rows ms cs st) marked sized
       (λ its gs tree asc hl hp rooted z. holds_keep grown (makes_holds m (value its gs tree asc hl hp rooted z)))
+
+-- the same where no table has more rows than the loop and the arguments together
+module _ (docs : Docs) (s s1 s2 : State) (site : Site) (r : Rule) (looped : OpId) (args : List OpId) (t : OpId) (cs : List Check) (ms : List (Code × List Row)) (mids : List (List Row)) (tests : List (Iter → List Cell) → List (Iter → Bool))
+    (no_step : own_walks site r ≡ []) (ranked : Ranked (map first_mark ms)) (dynamic : AllOf (λ (q : Code × List Row). is_dynamic q.0 ≡ true) ms)
+    (rows : List Row) (most many : ℕ) (m : Makes s s1 t three rows most) (st : Stages site many s1 s2 (at s looped).rows ms cs)
+    (within : (N : ℕ) → length (at s looped).rows + op_sizes s args ≤ N → AllOf (λ (j : List Row). length j ≤ N) mids → (most ≤ N) × (many ≤ N))
+    (told : (its : List Iter) (gs : List (Iter → List Cell)) (tree : TreeId → Option (Tree Text)) → Ascends (λ i. i.number) 0 its → Holds s looped single (loop_rows its) → HoldAll s args gs its → AllOf (λ g. AllOf (λ i. AllOf (Rooted tree) (g i)) its) gs
+    → AllMark (marked_rows ms) (tests gs) its × AllOf (λ i. fault_in (call_answer docs site r gs i) ≡ first_coded (map first_mark ms) (tests gs) i) its)
+    (few : (its : List Iter) (gs : List (Iter → List Cell)) → Ascends (λ i. i.number) 0 its → Holds s looped single (loop_rows its) → HoldAll s args gs its → AllOf (λ (j : List Row). length j ≤ length (at s looped).rows + op_sizes s args) mids)
+    (value : (its : List Iter) (gs : List (Iter → List Cell)) (tree : TreeId → Option (Tree Text)) → Ascends (λ i. i.number) 0 its → Holds s looped single (loop_rows its) → HoldAll s args gs its → AllOf (λ g. AllOf (λ i. AllOf (Rooted tree) (g i)) its) gs
+    → call_faults docs site r gs its ≡ [] → Same rows (value_rows (λ i. list_of (value_in (call_answer docs site r gs i))) its)) where
+  few_within : (N : ℕ) (its : List Iter) (gs : List (Iter → List Cell)) → Ascends (λ i. i.number) 0 its → Holds s looped single (loop_rows its) → HoldAll s args gs its → call_cost docs site r gs its ≤ N → AllOf (λ (j : List Row). length j ≤ N) mids
+  few_within N its gs asc hl hp enough =
+      let l = args_few docs s site r looped args N its gs hl hp enough in
+      all_mono _ _ (λ (j : List Row) (k : length j ≤ length (at s looped).rows + op_sizes s args). let q : length j ≤ N = omega arith in q) mids (few its gs asc hl hp)
+
+  pub stages_call : CallLifts docs s s2 site r looped args t
+  stages_call = stages_within docs s s1 s2 site r looped args t cs ms mids tests no_step ranked dynamic rows most many m st within told few_within value
 
 abbrev for_one : ((Iter → List Cell) → List (Iter → Bool)) → List (Iter → List Cell) → List (Iter → Bool)
 for_one tests [] = []

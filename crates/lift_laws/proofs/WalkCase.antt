@@ -137,7 +137,7 @@ module _ (texts : List Text) (axis : Axis) (wanted : NodeTest) where
       all-flat _ (found axis (walk_test texts wanted)) (nodes_in vs)
       (all_mono _ _ (λ m (k : Rooted tree (NodeItem m)).
       all-map (λ q. (n : ℕ) → canon tree (pair_of n q) ≡ pair_of n q) (node_in_tree m) (filter (steps_to text_eq axis (walk_test texts wanted) m.tree m.path) (node_paths m.tree))
-      (all_each _ (λ w n. ap (λ v. (num n, v)) (known_node tree (node_in_tree m w) k)) (filter (steps_to text_eq axis (walk_test texts wanted) m.tree m.path) (node_paths m.tree)))) (nodes_in vs) (nodes_rooted tree vs h))
+      (all_each _ (λ w n. ap (λ v. (num n, v)) (known_node tree (node_in_tree m w) k.0)) (filter (steps_to text_eq axis (walk_test texts wanted) m.tree m.path) (node_paths m.tree)))) (nodes_in vs) (nodes_rooted tree vs h))
 
   positive_all : (n : ℕ) (js : List Iter) → Ascends (λ i. i.number) n js → AllOf (λ i. 0 < i.number) js
   positive_all n [] b = tt

@@ -1,23 +1,26 @@
 -- The definitions on small expressions and tables.
-use Rattle.std.proofs.Common.{◌≡◌, ℕ, ◌+◌, [], ◌∷◌, pos, map, Some, true, false, refl}
+use Rattle.std.proofs.Common.{◌≡◌, ℕ, ◌+◌, List, [], ◌∷◌, pos, map, Some, None, true, false, refl}
 use Rattle.std.specs.List.{filter}
 use Rattle.xq_base.specs.declared.item.Atom.TheVariants as a
 use Rattle.xq_base.specs.declared.axis.Axis.TheVariants as x
 use Rattle.xq_base.specs.declared.axis.NodeTest.TheVariants as n
 use Rattle.xq_base.specs.declared.fun.Fun.TheVariants as f
+use Rattle.xq_base.specs.declared.fun.AtomKind.TheVariants as k'
 use Rattle.xq_base.specs.declared.fun.CompOp.TheVariants as o'
+use Rattle.xq_base.specs.Words.{text_part, text_mapped}
 use Rattle.doc_table.specs.Tree.{Branch, OfDocument, TextNode, no_more as no_trees}
 use Rattle.doc_table.specs.Identity.{DocTree, BuiltTree}
 use Rattle.doc_table.specs.Nodes.{root_path}
-use Rattle.doc_table.specs.Items.{IntItem, TextItem, BoolItem, NodeItem}
+use Rattle.doc_table.specs.Items.{IntItem, TextItem, UntypedItem, BoolItem, NodeItem}
 use Rattle.plan_dag.specs.declared.op.Op.TheVariants as o
 use Rattle.plan_dag.specs.ItemRules.{Cell}
 use Rattle.plan_dag.specs.Meaning.{Graph}
+use Rattle.core_meaning.specs.declared.node.Occurs.TheVariants as v
 use Rattle.core_meaning.specs.Expr.{Site, Apply, Make, Expr, Exprs, Lit, Var, Seq, For, Call, no_more, one_more}
 use Rattle.core_meaning.specs.Meaning.{no_variables}
 use Rattle.core_meaning.specs.Failures.{fails}
 use Rattle.core_meaning.specs.Work.{work}
-use Rattle.lift_laws.specs.Iterations.{Iter, num, value_rows}
+use Rattle.lift_laws.specs.Iterations.{Row, Iter, num, value_rows}
 use Rattle.lift_laws.specs.Bulk.{value, chosen, inside, faults, cost}
 use Rattle.lift_laws.specs.Worlds.{World, cell_of}
 use Rattle.lift_laws.specs.States.{column, op_id, three, state_of, at, demand_at}
@@ -26,6 +29,12 @@ use Rattle.lift_laws.specs.Stages.{boolean_marks, boolean_rows}
 use Rattle.lift_laws.specs.Pairs.{Quotients, pair_codes, pair_marks, pair_value_rows, filled_rows, general_marks, general_rows}
 use Rattle.lift_laws.specs.Walks.{ordered_rows, walk_rows, union_rows, path_rows, path_marks}
 use Rattle.lift_laws.specs.Sequences.{concat_rows, reversed_rows}
+use Rattle.lift_laws.specs.Aggregates.{sum_or_rows}
+use Rattle.lift_laws.specs.TypeTests.{DocumentNodes, ElementNodes, OfNodes, other_type_rows}
+use Rattle.lift_laws.specs.Ranges.{range_marks, range_value_rows}
+use Rattle.lift_laws.specs.TextParts.{part_marks, part_rows, Maps, trio_rows, trio_value_rows}
+use Rattle.lift_laws.specs.Joins.{joined_rows, join_loop, blank_rows}
+use Rattle.lift_laws.specs.Conversions.{kind_marks}
 
 abbrev root : Iter
 root = record { number = 1; env = no_variables; vector = [] }
@@ -162,6 +171,64 @@ texts_joined = refl
 
 turned_round : reversed_rows ((num 1 ∷ num 2 ∷ num 7 ∷ []) ∷ (num 1 ∷ num 1 ∷ num 8 ∷ []) ∷ []) ≡ (num 1 ∷ num 1 ∷ num 7 ∷ []) ∷ (num 1 ∷ num 2 ∷ num 8 ∷ []) ∷ []
 turned_round = refl
+
+-- a run where both bounds are numbers, of which one may be untyped: a text that spells one is a wrong type
+abbrev two_loop : List Row
+two_loop = (num 1 ∷ []) ∷ (num 2 ∷ []) ∷ []
+
+abbrev first_bounds : List Row
+first_bounds = (num 1 ∷ num 1 ∷ num 2 ∷ []) ∷ (num 2 ∷ num 1 ∷ TextItem (49 ∷ []) ∷ []) ∷ []
+
+abbrev last_bounds : List Row
+last_bounds = (num 2 ∷ num 1 ∷ num 9 ∷ []) ∷ (num 1 ∷ num 1 ∷ UntypedItem (51 ∷ []) ∷ []) ∷ []
+
+runs : range_value_rows two_loop first_bounds last_bounds ≡ (num 1 ∷ num 1 ∷ num 2 ∷ []) ∷ (num 1 ∷ num 2 ∷ num 3 ∷ []) ∷ []
+runs = refl
+
+wrong_bounds : map (λ m. m.1) (range_marks two_loop first_bounds last_bounds) ≡ ((num 2 ∷ []) ∷ []) ∷ [] ∷ []
+wrong_bounds = refl
+
+-- a total, or the second argument where there is nothing to sum
+totals : sum_or_rows two_loop ((num 1 ∷ num 2 ∷ num 6 ∷ []) ∷ (num 1 ∷ num 1 ∷ num 5 ∷ []) ∷ []) ((num 1 ∷ num 1 ∷ num 7 ∷ []) ∷ (num 2 ∷ num 1 ∷ TextItem (120 ∷ []) ∷ []) ∷ []) ≡ (num 1 ∷ num 1 ∷ num 11 ∷ []) ∷ (num 2 ∷ num 1 ∷ TextItem (120 ∷ []) ∷ []) ∷ []
+totals = refl
+
+-- a text from its second character on, and an absent one; no start is a wrong type
+text_parts : part_rows two_loop ((num 1 ∷ num 1 ∷ TextItem (97 ∷ 98 ∷ 99 ∷ []) ∷ []) ∷ []) ((num 1 ∷ num 1 ∷ num 2 ∷ []) ∷ (num 2 ∷ num 1 ∷ num 1 ∷ []) ∷ [])
+    ≡ (num 1 ∷ num 1 ∷ TextItem (text_part (97 ∷ 98 ∷ 99 ∷ []) (pos 2) None) ∷ []) ∷ (num 2 ∷ num 1 ∷ TextItem (text_part [] (pos 1) None) ∷ []) ∷ []
+text_parts = refl
+
+no_start : map (λ m. m.1) (part_marks two_loop [] ((num 1 ∷ num 1 ∷ num 2 ∷ []) ∷ [])) ≡ ((num 2 ∷ []) ∷ []) ∷ [] ∷ []
+no_start = refl
+
+-- three texts in their order
+mapped : trio_value_rows f.Translate (trio_rows Maps ((num 1 ∷ []) ∷ []) ((num 1 ∷ num 1 ∷ TextItem (97 ∷ []) ∷ []) ∷ []) ((num 1 ∷ num 1 ∷ TextItem (98 ∷ []) ∷ []) ∷ []) ((num 1 ∷ num 1 ∷ TextItem [] ∷ []) ∷ []))
+    ≡ (num 1 ∷ num 1 ∷ TextItem (text_mapped (97 ∷ []) (98 ∷ []) []) ∷ []) ∷ []
+mapped = refl
+
+-- texts in the order of their positions, with one between; nothing is the empty text
+abbrev two_texts : List Row
+two_texts = (num 1 ∷ num 2 ∷ TextItem (98 ∷ []) ∷ []) ∷ (num 1 ∷ num 1 ∷ TextItem (97 ∷ []) ∷ []) ∷ []
+
+abbrev dashes : List Row
+dashes = (num 1 ∷ num 1 ∷ TextItem (45 ∷ []) ∷ []) ∷ (num 2 ∷ num 1 ∷ TextItem (45 ∷ []) ∷ []) ∷ []
+
+with_dashes : joined_rows two_loop (join_loop two_loop two_texts dashes) two_texts dashes ≡ (num 1 ∷ num 1 ∷ TextItem (97 ∷ 45 ∷ 98 ∷ []) ∷ []) ∷ (num 2 ∷ num 1 ∷ TextItem [] ∷ []) ∷ []
+with_dashes = refl
+
+with_blanks : joined_rows two_loop two_loop two_texts (blank_rows two_loop) ≡ (num 1 ∷ num 1 ∷ TextItem (97 ∷ 32 ∷ 98 ∷ []) ∷ []) ∷ (num 2 ∷ num 1 ∷ TextItem [] ∷ []) ∷ []
+with_blanks = refl
+
+-- a text is no integer, though it spells one; an untyped value that spells none can't be cast
+wrong_kinds : map (λ m. m.1) (kind_marks k'.Integer v.AtLeastOne ((num 1 ∷ []) ∷ (num 2 ∷ []) ∷ (num 3 ∷ []) ∷ []) ((num 1 ∷ num 1 ∷ num 5 ∷ []) ∷ (num 2 ∷ num 1 ∷ UntypedItem (120 ∷ []) ∷ []) ∷ (num 3 ∷ num 1 ∷ TextItem (49 ∷ []) ∷ []) ∷ []))
+    ≡ ((num 3 ∷ []) ∷ []) ∷ ((num 2 ∷ []) ∷ []) ∷ []
+wrong_kinds = refl
+
+-- a document, a number, and a document where an element is asked for
+no_document : other_type_rows (OfNodes DocumentNodes) v.One two_loop ((num 1 ∷ num 1 ∷ node 2 ∷ []) ∷ (num 2 ∷ num 1 ∷ num 5 ∷ []) ∷ []) ≡ (num 2 ∷ []) ∷ []
+no_document = refl
+
+no_element : other_type_rows (OfNodes (ElementNodes (Some (97 ∷ [])))) v.One ((num 1 ∷ []) ∷ []) ((num 1 ∷ num 1 ∷ node 2 ∷ []) ∷ []) ≡ (num 1 ∷ []) ∷ []
+no_element = refl
 
 -- the plan of the literal 5: a loop of one iteration, the position, the item
 five : Graph

@@ -10,7 +10,7 @@ use Rattle.plan_dag.specs.Rows.{count_rows, range_rows, aggregate_rows, aggregat
 use Rattle.plan_dag.specs.Meaning.{cell}
 use Rattle.lift_laws.specs.Iterations.{Row, num}
 use Rattle.lift_laws.specs.States.{column, three, single}
-use Rattle.lift_laws.specs.Shapes.{bare, pair, columns, project, join_by, with_cell, four, literal_rows, either_rows, less, turn_map, any_rows}
+use Rattle.lift_laws.specs.Shapes.{bare, pair, columns, project, join_by, with_cell, four, literal_rows, either_rows, less, turn_map, any_rows, second_rows, restrict_rows, data_rows}
 
 -- the numbers of all rows, from one on, in order
 abbrev pub places_rows : List Row → List Row
@@ -49,15 +49,23 @@ none_rows Totals l = literal_rows (num 0) l
 none_rows Minima l = []
 none_rows Maxima l = []
 
--- their values beside the loop, in the iterations that have an item; and in all
+-- what is given of each group of rows, beside the loop; and at position 1
+abbrev pub grouped_by : Agg → List Row → List Row → List Row
+grouped_by agg l rs =
+    join_by single (columns (4 ∷ 5 ∷ [])) (column 0) (column 4) l (project (columns (0 ∷ 1 ∷ [])) (pair 4 0 ∷ pair 5 1 ∷ []) (aggregate_rows bare agg (cell bare three (column 0)) (cell bare three (column 2)) rs))
+
+abbrev pub given_by : Agg → List Row → List Row → List Row
+given_by agg l rs = project (columns (0 ∷ 4 ∷ 5 ∷ 1 ∷ [])) (pair 0 0 ∷ pair 1 1 ∷ pair 2 5 ∷ []) (with_cell (num 1) (grouped_by agg l rs))
+
+-- their values in the iterations that have an item; and in all
 abbrev pub grouped_rows : AggRule → List Row → List Row → List Row
-grouped_rows q l rs =
-    join_by single (columns (4 ∷ 5 ∷ [])) (column 0) (column 4) l (project (columns (0 ∷ 1 ∷ [])) (pair 4 0 ∷ pair 5 1 ∷ []) (aggregate_rows bare (agg_of q) (cell bare three (column 0)) (cell bare three (column 2)) rs))
+grouped_rows q l rs = grouped_by (agg_of q) l rs
+
+abbrev pub agg_given_rows : AggRule → List Row → List Row → List Row
+agg_given_rows q l a = given_by (agg_of q) l (sorted_rows a)
 
 abbrev pub agg_value_rows : AggRule → List Row → List Row → List Row
-agg_value_rows q l a =
-    either_rows (project (columns (0 ∷ 4 ∷ 5 ∷ 1 ∷ [])) (pair 0 0 ∷ pair 1 1 ∷ pair 2 5 ∷ []) (with_cell (num 1) (grouped_rows q l (sorted_rows a))))
-    (none_rows q (less l (any_rows a)))
+agg_value_rows q l a = either_rows (agg_given_rows q l a) (none_rows q (less l (any_rows a)))
 
 abbrev pub agg_marks : AggRule → List Row → List (Code × List Row)
 agg_marks q a = map (λ d. (d, aggregate_fails_rows bare (agg_of q) d (cell bare three (column 0)) (cell bare three (column 2)) (sorted_rows a))) (agg_codes q)
@@ -65,3 +73,15 @@ agg_marks q a = map (λ d. (d, aggregate_fails_rows bare (agg_of q) d (cell bare
 -- what the operators may demand
 abbrev pub agg_most : AggRule → List Row → List Row → ℕ
 agg_most q l a = max (length l + length a) (max (length (sorted_rows a)) (max (length (grouped_rows q l (sorted_rows a))) (length (agg_value_rows q l a))))
+
+-- `sum` of two arguments: the second one, of at most one item, where the first has none
+abbrev pub sum_or_rows : List Row → List Row → List Row → List Row
+sum_or_rows l a b = either_rows (agg_given_rows Totals l a) (data_rows (restrict_rows (less l (any_rows a)) b))
+
+abbrev pub sum_or_marks : List Row → List Row → List (Code × List Row)
+sum_or_marks a b = (c.XPTY0004, second_rows b) ∷ agg_marks Totals a
+
+abbrev pub sum_or_most : List Row → List Row → List Row → ℕ
+sum_or_most l a b =
+    max (length l + length a + length b)
+    (max (length (sorted_rows a)) (max (length (grouped_rows Totals l (sorted_rows a))) (max (length (restrict_rows (less l (any_rows a)) b)) (length (sum_or_rows l a b)))))

@@ -24,9 +24,10 @@ use Rattle.plan_dag.specs.ItemRules.{Cell, item_rules}
 use Rattle.plan_dag.specs.Meaning.{Graph, table_of, tables, demand_of, answer_from}
 use Rattle.plan_dag.specs.Schema.{is_valid}
 use Rattle.plan_dag.specs.Graphs.{Adds, in_graph, with_check}
-use Rattle.core_meaning.specs.Expr.{Site, Rule, Apply, Walk, IsOf, TreatAs, ConvertTo, CastableTo, FailWith, Expr, Exprs, Lit, Empty, Var, Seq, Let, For, If, Call, no_more, one_more}
+use Rattle.core_meaning.specs.Expr.{Site, Rule, Apply, Walk, IsOf, TreatAs, ConvertTo, CastTo, CastableTo, FailWith, Expr, Exprs, Lit, Empty, Var, Seq, Let, For, If, Call, no_more, one_more}
 use Rattle.core_meaning.specs.declared.node.Occurs.{Occurs}
 use Rattle.core_meaning.specs.declared.node.StepFrom.{StepFrom}
+use Rattle.core_meaning.specs.Types.{NoItems}
 use Rattle.core_meaning.specs.Rules.{no_node_code}
 use Rattle.core_meaning.specs.Meaning.{val}
 use Rattle.core_meaning.specs.Failures.{fails}
@@ -37,15 +38,19 @@ use Rattle.lift_laws.specs.Iterations.{Row, Iter}
 use Rattle.lift_laws.specs.Bulk.{Fault, faults, cost}
 use Rattle.lift_laws.specs.Worlds.{World, cell_of, Known, Faithful, tree_under}
 use Rattle.lift_laws.specs.States.{State, state_of, step_at, at, IsIn, Makes, Checks, three, single}
-use Rattle.lift_laws.specs.Shapes.{less, beside, four, literal_rows, seq_rows, turn_map, inner_rows, item_var_rows, place_var_rows, back_rows, second_rows, chosen_rows, other_rows, either_rows, into_rows, restrict_rows, any_rows, named_rows, truth_rows, item_value_in, item_fails_rows, data_rows, counted_rows, count_value_rows}
+use Rattle.lift_laws.specs.Shapes.{less, beside, four, literal_rows, seq_rows, turn_map, inner_rows, item_var_rows, place_var_rows, back_rows, second_rows, chosen_rows, other_rows, either_rows, into_rows, restrict_rows, any_rows, named_rows, truth_rows, item_value_in, item_fails_rows, data_rows, item_value_rows, counted_rows, count_value_rows}
 use Rattle.lift_laws.specs.Lifting.{Group, checks_of, Tells, InCodeOrder, Lifts, LiftsAll, CallLifts, Fair, Rooted}
 use Rattle.lift_laws.specs.Carried.{set_var, CarryOne, CarriedFor, Carries, Restricts}
 use Rattle.lift_laws.specs.Stages.{Stages, ItemRule, rule_of, fun_of, codes_of, item_marks, item_marks_in, item_most, item_most_in, uncastable_rows, castable_most, TextRule, text_fun, absent_item, text_value_rows, boolean_fun, boolean_marks, boolean_rows, boolean_most}
 use Rattle.lift_laws.specs.Pairs.{PairRule, pair_fun, OfEach, TextPairRule, text_pair_fun, filled_rows, pair_codes, pair_marks, pair_most, pair_value_rows, general_fun, general_marks, general_rows, general_most}
 use Rattle.lift_laws.specs.Walks.{node_cols, ordered_rows, walk_rows, walk_test, MakesStep, union_rows, union_marks, path_rows, path_marks}
 use Rattle.lift_laws.specs.Sequences.{rows_at, concat_rows, concat_marks, concat_most, reversed_rows}
-use Rattle.lift_laws.specs.Aggregates.{AggRule, agg_fun, agg_value_rows, agg_marks, agg_most}
-use Rattle.lift_laws.specs.TypeTests.{AtomTest, Anything, Atomic, sequence_test, other_type_rows, count_marks_of}
+use Rattle.lift_laws.specs.Aggregates.{AggRule, agg_fun, agg_value_rows, agg_marks, agg_most, sum_or_rows, sum_or_marks, sum_or_most}
+use Rattle.lift_laws.specs.TypeTests.{TypeTest, NodeType, Anything, Atomic, OfKind, OfNodes, sequence_test, other_type_rows, count_marks_of}
+use Rattle.lift_laws.specs.Ranges.{range_marks, range_value_rows, range_most}
+use Rattle.lift_laws.specs.TextParts.{part_marks, part_rows, part_most, TrioRule, trio_fun, trio_marks, trio_rows, trio_value_rows, trio_most}
+use Rattle.lift_laws.specs.Joins.{joined_rows, joined_most, join_marks, join_loop, blank_rows}
+use Rattle.lift_laws.specs.Conversions.{kind_marks, strict_marks}
 use Rattle.lift_laws.specs.Verdicts.{Verdict, SmallFrom}
 
 -- where nothing fails in any iteration, each has a value
@@ -247,15 +252,15 @@ PathsLift = (docs : Docs) (s s1 s2 : State) (site : Site) (looped a t : OpId) (c
     → Stages site (length (at s looped).rows + length (at s a).rows) s1 s2 (at s looped).rows (path_marks (at s a).rows) cs
     → CallLifts docs s s2 site (Apply f.PathOrder) looped (a ∷ []) t
 
--- `instance of` a type of atomic values or of any items: a boolean by whether the argument has another type
+-- `instance of` a type: a boolean by whether the argument has another type
 abbrev pub InstancesLift : Type 0
-InstancesLift = (docs : Docs) (s s' : State) (site : Site) (q : AtomTest) (occurs : Occurs) (looped a t : OpId)
+InstancesLift = (docs : Docs) (s s' : State) (site : Site) (q : TypeTest) (occurs : Occurs) (looped a t : OpId)
     → Makes s s' t three (truth_rows false (at s looped).rows (other_type_rows q occurs (at s looped).rows (at s a).rows)) (length (at s looped).rows + length (at s looped).rows + length (at s a).rows)
     → CallLifts docs s s' site (IsOf (sequence_test q occurs)) looped (a ∷ []) t
 
 -- `treat as` such a type: a check of the iterations whose argument has another one, and the argument's table
 abbrev pub TreatsLift : Type 0
-TreatsLift = (docs : Docs) (s s1 s2 : State) (site : Site) (q : AtomTest) (occurs : Occurs) (looped a k : OpId)
+TreatsLift = (docs : Docs) (s s1 s2 : State) (site : Site) (q : TypeTest) (occurs : Occurs) (looped a k : OpId)
     → Makes s s1 k single (named_rows (at s looped).rows (other_type_rows q occurs (at s looped).rows (at s a).rows)) (length (at s looped).rows + length (at s a).rows)
     → Checks s1 s2 (record { op = k; code = c.XPDY0050; offset = site.offset }) → CallLifts docs s s2 site (TreatAs (sequence_test q occurs)) looped (a ∷ []) a
 
@@ -344,3 +349,75 @@ BranchCarries = (s s' : State) (l : OpId) (vars inner : ℕ → OpId) (e : Expr)
 -- under the identity of a known item's cell stands its tree
 abbrev pub TreesAreKnown : Type 0
 TreesAreKnown = (docs : Docs) (W : World) → Faithful W → (vs : Items) → AllOf (Known docs W) vs → AllOf (Rooted (tree_under docs W)) (map (cell_of W) vs)
+
+-- `to`: a run of integers for each iteration, and checks of both bounds
+abbrev pub RangesLift : Type 0
+RangesLift = (docs : Docs) (s s1 s2 : State) (site : Site) (looped a b t : OpId) (cs : List Check)
+    → Makes s s1 t three (range_value_rows (at s looped).rows (at s a).rows (at s b).rows) (range_most (at s looped).rows (at s a).rows (at s b).rows)
+    → Stages site (range_most (at s looped).rows (at s a).rows (at s b).rows) s1 s2 (at s looped).rows (range_marks (at s looped).rows (at s a).rows (at s b).rows) cs
+    → CallLifts docs s s2 site (Apply f.To) looped (a ∷ b ∷ []) t
+
+-- `sum` of two arguments: the total, or the second argument where there is nothing to sum, and a check for each code
+abbrev pub SumsOrLift : Type 0
+SumsOrLift = (docs : Docs) (s s1 s2 : State) (site : Site) (looped a b t : OpId) (cs : List Check)
+    → Makes s s1 t three (sum_or_rows (at s looped).rows (at s a).rows (at s b).rows) (sum_or_most (at s looped).rows (at s a).rows (at s b).rows)
+    → Stages site (sum_or_most (at s looped).rows (at s a).rows (at s b).rows) s1 s2 (at s looped).rows (sum_or_marks (at s a).rows (at s b).rows) cs
+    → CallLifts docs s s2 site (Apply f.Sum) looped (a ∷ b ∷ []) t
+
+-- `substring` of a text and a start: a map over both beside each other, and checks of both
+abbrev pub PartsOfTextsLift : Type 0
+PartsOfTextsLift = (docs : Docs) (s s1 s2 : State) (site : Site) (looped a b t : OpId) (cs : List Check)
+    → Makes s s1 t three (part_rows (at s looped).rows (at s a).rows (at s b).rows) (part_most (at s looped).rows (at s a).rows (at s b).rows)
+    → Stages site (part_most (at s looped).rows (at s a).rows (at s b).rows) s1 s2 (at s looped).rows (part_marks (at s looped).rows (at s a).rows (at s b).rows) cs
+    → CallLifts docs s s2 site (Apply f.Substring) looped (a ∷ b ∷ []) t
+
+-- `substring` with a length, and `translate`: a map over three items beside each other, and checks of all three
+abbrev pub TriosLift : Type 0
+TriosLift = (docs : Docs) (s s1 s2 : State) (site : Site) (q : TrioRule) (looped a b d t : OpId) (cs : List Check)
+    → let l = (at s looped).rows in
+    let most = trio_most q l (at s a).rows (at s b).rows (at s d).rows in
+    Makes s s1 t three (trio_value_rows (trio_fun q) (trio_rows q l (at s a).rows (at s b).rows (at s d).rows)) most
+    → Stages site most s1 s2 l (trio_marks q l (at s a).rows (at s b).rows (at s d).rows) cs
+    → CallLifts docs s s2 site (Apply (trio_fun q)) looped (a ∷ b ∷ d ∷ []) t
+
+-- `string-join`: the joined texts of the iterations that no check names, and a check
+abbrev pub JoinsLift : Type 0
+JoinsLift = (docs : Docs) (s s1 s2 : State) (site : Site) (looped a b t : OpId) (cs : List Check)
+    → let l = (at s looped).rows in
+    let m = join_loop l (at s a).rows (at s b).rows in
+    Makes s s1 t three (joined_rows l m (at s a).rows (at s b).rows) (joined_most l m (at s a).rows (at s b).rows)
+    → Stages site (joined_most l m (at s a).rows (at s b).rows) s1 s2 l (join_marks l (at s a).rows (at s b).rows) cs
+    → CallLifts docs s s2 site (Apply f.StringJoin) looped (a ∷ b ∷ []) t
+
+-- the text of content: the joined texts of all iterations, with blanks between
+abbrev pub ContentsLift : Type 0
+ContentsLift = (docs : Docs) (s s' : State) (site : Site) (looped a t : OpId)
+    → let l = (at s looped).rows in
+    Makes s s' t three (joined_rows l l (at s a).rows (blank_rows l)) (joined_most l l (at s a).rows (blank_rows l)) → CallLifts docs s s' site (Apply f.ContentText) looped (a ∷ []) t
+
+-- conversion to one kind of atomic values: a cast of each, and checks of their number, of their kinds and of the casts
+abbrev pub KindConversionsLift : Type 0
+KindConversionsLift = (docs : Docs) (s s1 s2 : State) (site : Site) (kind : AtomKind) (occurs : Occurs) (looped a t : OpId) (cs : List Check)
+    → Makes s s1 t three (item_value_rows (f.CastTo kind) (data_rows (at s a).rows)) (length (at s a).rows)
+    → Stages site (length (at s looped).rows + length (at s a).rows) s1 s2 (at s looped).rows (kind_marks kind occurs (at s looped).rows (at s a).rows) cs
+    → CallLifts docs s s2 site (ConvertTo (sequence_test (OfKind kind) occurs)) looped (a ∷ []) t
+
+-- conversion to a type of nodes: a check, and the argument's table
+abbrev pub NodeConversionsLift : Type 0
+NodeConversionsLift = (docs : Docs) (s s1 s2 : State) (site : Site) (q : NodeType) (occurs : Occurs) (looped a k : OpId)
+    → Makes s s1 k single (named_rows (at s looped).rows (other_type_rows (OfNodes q) occurs (at s looped).rows (at s a).rows)) (length (at s looped).rows + length (at s a).rows)
+    → Checks s1 s2 (record { op = k; code = c.XPTY0004; offset = site.offset }) → CallLifts docs s s2 site (ConvertTo (sequence_test (OfNodes q) occurs)) looped (a ∷ []) a
+
+-- the type of no items: a boolean by whether the argument has an item, or a check of the iterations that have one and its table
+abbrev pub EmptyTypesLift : Type 0
+EmptyTypesLift = (docs : Docs) (s s1 s2 : State) (site : Site) (looped a k : OpId)
+    → (Makes s s1 k three (truth_rows false (at s looped).rows (any_rows (at s a).rows)) (length (at s looped).rows + length (at s looped).rows + length (at s a).rows) → CallLifts docs s s1 site (IsOf NoItems) looped (a ∷ []) k)
+    × (Makes s s1 k single (named_rows (at s looped).rows (any_rows (at s a).rows)) (length (at s looped).rows + length (at s a).rows) → Checks s1 s2 (record { op = k; code = c.XPDY0050; offset = site.offset }) → CallLifts docs s s2 site (TreatAs NoItems) looped (a ∷ []) a)
+    × (Makes s s1 k single (named_rows (at s looped).rows (any_rows (at s a).rows)) (length (at s looped).rows + length (at s a).rows) → Checks s1 s2 (record { op = k; code = c.XPTY0004; offset = site.offset }) → CallLifts docs s s2 site (ConvertTo NoItems) looped (a ∷ []) a)
+
+-- a cast of exactly one item: a map over the items, and checks of their number and of the casts
+abbrev pub StrictCastsLift : Type 0
+StrictCastsLift = (docs : Docs) (s s1 s2 : State) (site : Site) (kind : AtomKind) (looped a t : OpId) (cs : List Check)
+    → Makes s s1 t three (item_value_rows (f.CastTo kind) (at s a).rows) (length (at s a).rows)
+    → Stages site (length (at s looped).rows + length (at s a).rows) s1 s2 (at s looped).rows (strict_marks kind (at s looped).rows (at s a).rows) cs
+    → CallLifts docs s s2 site (CastTo kind false) looped (a ∷ []) t

@@ -13,4 +13,9 @@ pub mod Walks
 pub mod Sequences
 pub mod Aggregates
 pub mod TypeTests
+pub mod Readings
+pub mod Ranges
+pub mod TextParts
+pub mod Joins
+pub mod Conversions
 pub mod Laws

@@ -5,6 +5,7 @@ use Rattle.xq_base.specs.declared.code.Code.{Code}
 use Rattle.xq_base.specs.Answers.{Answer, Value, Fault as Refused, check_rank}
 use Rattle.xq_base.specs.Texts.{Text}
 use Rattle.doc_table.specs.Tree.{Tree}
+use Rattle.doc_table.specs.Paths.{has_node}
 use Rattle.doc_table.specs.Identity.{TreeId}
 use Rattle.doc_table.specs.Items.{Item, NodeItem}
 use Rattle.doc_table.specs.Values.{Items}
@@ -113,9 +114,9 @@ pub record OwnSteps (s s' : State) (site : Site) (r : Rule) (args : List OpId) :
   pub walks_are : map (λ (q : StepAt). q.step) added ≡ own_walks site r
   pub inputs : AllOf (λ q. args ≡ q.input ∷ []) added
 
--- a cell's node has the tree that stands under its identity
+-- a cell's node has the tree that stands under its identity, and stands in it
 abbrev pub Rooted : (TreeId → Option (Tree Text)) → Cell → Type 0
-Rooted tree (NodeItem n) = tree n.id ≡ Some n.tree
+Rooted tree (NodeItem n) = (tree n.id ≡ Some n.tree) × (has_node n.tree n.path ≡ true)
 Rooted tree _ = Unit {0}
 
 abbrev pub answer_cells : (Item Text → Cell) → Answer Items → Answer Items

@@ -119,8 +119,11 @@ abbrev pub pair_most : List Row → List Row → List Row → ℕ
 pair_most l a b = max (max (length l) (length a)) (max (length b) (max (length (restrict_rows (fit_loop l a b) a)) (length (both_rows l a b))))
 
 -- what a function gives of both items, at position 1
+abbrev pub side_value_rows : Fun → List Row → List Row
+side_value_rows g j = project (columns (0 ∷ 1 ∷ 2 ∷ 4 ∷ 5 ∷ 3 ∷ [])) (pair 0 0 ∷ pair 1 1 ∷ pair 2 3 ∷ []) (map_rows bare g both_cells j)
+
 abbrev pub pair_value_rows : Fun → List Row → List Row → List Row → List Row
-pair_value_rows g l a b = project (columns (0 ∷ 1 ∷ 2 ∷ 4 ∷ 5 ∷ 3 ∷ [])) (pair 0 0 ∷ pair 1 1 ∷ pair 2 3 ∷ []) (map_rows bare g both_cells (both_rows l a b))
+pair_value_rows g l a b = side_value_rows g (both_rows l a b)
 
 -- the functions of two texts, of which an absent one is empty
 pub data TextPairRule : Type 0 where

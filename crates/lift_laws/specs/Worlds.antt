@@ -4,7 +4,7 @@ use Rattle.std.specs.Prelude.{◌≡◌, ◌⊎◌, ℕ, zero, suc, ◌<◌, tru
 use Rattle.std.specs.List.{filter}
 use Rattle.xq_base.specs.Texts.{Text}
 use Rattle.doc_table.specs.Tree.{Tree}
-use Rattle.doc_table.specs.Paths.{is_same, is_less}
+use Rattle.doc_table.specs.Paths.{is_same, is_less, has_node}
 use Rattle.doc_table.specs.Identity.{TreeId, DocTree, BuiltTree}
 use Rattle.doc_table.specs.Items.{Item, IntItem, TextItem, UntypedItem, BoolItem, NodeItem}
 use Rattle.doc_table.specs.Nodes.{root_path}
@@ -76,9 +76,9 @@ module _ (docs : Docs) where
   KnownTree W (DocTree d) tree = doc_tree docs d ≡ Some tree
   KnownTree W (BuiltTree s v) tree = Comes W s v tree
 
-  -- an item's nodes are of this world
+  -- an item's nodes are of this world, and stand in their trees
   abbrev pub Known : World → Item Text → Type 0
-  Known W (NodeItem n) = KnownTree W n.id n.tree
+  Known W (NodeItem n) = KnownTree W n.id n.tree × (has_node n.tree n.path ≡ true)
   Known W _ = Unit {0}
 
   abbrev pub one_tree : Option Items → Option (Tree Text)

@@ -1,5 +1,5 @@
 //! Laws of the lift, which a plan's maker cites.
-ghost use Rattle.lift_laws.specs.Laws.{AggregatesLift, AtomConversionsLift, BindingLifts, BooleansLift, BranchCarries, CallsLift, CastableLifts, CheckAdds, ChecksAnswer, ChoiceLifts, ConcatsLift, ConnectivesLift, ConstantsLift, CostIsWork, CountLifts, DataLifts, DemandsAreSmall, EmptyLifts, ExactlyOneLifts, ExistsLifts, FailuresAreReached, FailuresLift, GeneralsLift, InstancesLift, ItemConversionsLift, ItemRulesLift, LiteralLifts, LoopCarries, LoopLifts, NoPartsLift, NoneCarried, NothingLifts, OneMoreCarried, OneOrMoreLifts, OperatorMakes, PairRulesLift, PartsLift, PathsLift, ReverseLifts, RulesAreFair, SequenceLifts, StepMakes, StepsLift, TextPairsLift, TextRulesLift, TreatsLift, TreesAreKnown, UnionsLift, ValuesWhereNothingFails, VariableLifts, ZeroOrOneLifts};
+ghost use Rattle.lift_laws.specs.Laws.{AggregatesLift, AtomConversionsLift, BindingLifts, BooleansLift, BranchCarries, CallsLift, CastableLifts, CheckAdds, ChecksAnswer, ChoiceLifts, ConcatsLift, ConnectivesLift, ConstantsLift, ContentsLift, CostIsWork, CountLifts, DataLifts, DemandsAreSmall, EmptyLifts, EmptyTypesLift, ExactlyOneLifts, ExistsLifts, FailuresAreReached, FailuresLift, GeneralsLift, InstancesLift, ItemConversionsLift, ItemRulesLift, JoinsLift, KindConversionsLift, LiteralLifts, LoopCarries, LoopLifts, NoPartsLift, NodeConversionsLift, NoneCarried, NothingLifts, OneMoreCarried, OneOrMoreLifts, OperatorMakes, PairRulesLift, PartsLift, PartsOfTextsLift, PathsLift, RangesLift, ReverseLifts, RulesAreFair, SequenceLifts, StepMakes, StepsLift, StrictCastsLift, SumsOrLift, TextPairsLift, TextRulesLift, TreatsLift, TreesAreKnown, TriosLift, UnionsLift, ValuesWhereNothingFails, VariableLifts, ZeroOrOneLifts};
 
 /// Where nothing fails in any iteration, each has a value.
 #[tactic(auto, using(crate::proofs::Cases::values_where_nothing_fails))]
@@ -238,12 +238,12 @@ pub fn aggregates_lift()
     ensures { AggregatesLift }
 {}
 
-/// `instance of` a type of atomic values or of any items is lifted by a boolean for each iteration.
+/// `instance of` a type is lifted by a boolean for each iteration.
 pub fn instances_lift()
     ensures { InstancesLift }
 {}
 
-/// `treat as` a type of atomic values or of any items is lifted by a check and its argument's table.
+/// `treat as` a type is lifted by a check and its argument's table.
 pub fn treats_lift()
     ensures { TreatsLift }
 {}
@@ -261,4 +261,54 @@ pub fn item_conversions_lift()
 /// A conversion to a type of any atomic values is lifted by a map over the items and a check.
 pub fn atom_conversions_lift()
     ensures { AtomConversionsLift }
+{}
+
+/// `to` is lifted by a run of integers for each iteration, and checks of both bounds.
+pub fn ranges_lift()
+    ensures { RangesLift }
+{}
+
+/// `sum` of two arguments is lifted by the total, or by the second argument where there is nothing to sum, and a check for each code.
+pub fn sums_or_lift()
+    ensures { SumsOrLift }
+{}
+
+/// `substring` of a text and a start is lifted by a map over both beside each other, and checks of both.
+pub fn parts_of_texts_lift()
+    ensures { PartsOfTextsLift }
+{}
+
+/// `substring` with a length and `translate` are lifted by a map over three items beside each other, and checks of all three.
+pub fn trios_lift()
+    ensures { TriosLift }
+{}
+
+/// `string-join` is lifted by the joined texts of the iterations that no check names, and a check.
+pub fn joins_lift()
+    ensures { JoinsLift }
+{}
+
+/// The text of content is lifted by the joined texts of all iterations, with blanks between.
+pub fn contents_lift()
+    ensures { ContentsLift }
+{}
+
+/// A conversion to one kind of atomic values is lifted by a cast of each, and checks of their number, of their kinds and of the casts.
+pub fn kind_conversions_lift()
+    ensures { KindConversionsLift }
+{}
+
+/// A conversion to a type of nodes is lifted by a check and its argument's table.
+pub fn node_conversions_lift()
+    ensures { NodeConversionsLift }
+{}
+
+/// Tests of the type of no items and conversions to it are lifted by whether the argument has an item.
+pub fn empty_types_lift()
+    ensures { EmptyTypesLift }
+{}
+
+/// A cast of exactly one item is lifted by a map over the items, and checks of their number and of the casts.
+pub fn strict_casts_lift()
+    ensures { StrictCastsLift }
 {}
