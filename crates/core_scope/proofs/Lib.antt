@@ -21,6 +21,7 @@ pub mod Merging
 pub mod Assembling
 pub mod Turning
 pub mod Stages
+pub mod Falling
 pub mod Recursing
 pub mod Firsts
 pub mod Bounds

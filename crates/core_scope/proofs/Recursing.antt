@@ -5,7 +5,7 @@ use Rattle.core_scope.specs.declared.refusal.Refusal.{Refusal}
 use Rattle.core_scope.specs.Walk.{refused}
 use Rattle.core_scope.specs.Refusals.{Comes, earlier, is_before}
 use Rattle.core_scope.specs.Search.{Graph, targets, Decides}
-use Rattle.core_scope.specs.Leasts.{IsLeast, first_of_two}
+use Rattle.core_scope.specs.Leasts.{IsLeast, first_of_two, is_first}
 use Rattle.core_scope.specs.Kinds.{IsRecursive}
 use Rattle.core_scope.proofs.Leasting.{first_of_both, least_same, not_before_itself}
 
@@ -37,6 +37,16 @@ module _ (calls : Graph) (offsets : List ℕ) (n : ℕ) where
       at : (r : Refusal) → (Comes (targets calls) n n × (r ≡ refused code.PFRC0001 (get_or offsets n 0))) ⊎ IsRecursive calls offsets n r → IsRecursive calls offsets n r
       at r (inl p) = let x : ⊥ = no_way p.0 in elim x [ ]
       at r (inr p) = p
+
+  -- a function whose refusal doesn't stand before the first so far changes nothing, whether it calls itself or not
+  pub not_first : (first : Option Refusal) → is_first (refused code.PFRC0001 (get_or offsets n 0)) first ≡ false →
+      IsLeast (IsRecursive calls offsets n) first → IsLeast (IsRecursive calls offsets (n + 1)) first
+  not_first None e l = cc
+  not_first (Some b) e l = (before b l.0, λ x p. at x (split x p))
+    where
+      at : (x : Refusal) → (Comes (targets calls) n n × (x ≡ refused code.PFRC0001 (get_or offsets n 0))) ⊎ IsRecursive calls offsets n x → is_before x b ≡ false
+      at x (inl p) = ap (λ z. is_before z b) p.1 ∙ e
+      at x (inr p) = l.1 x p
 
   pub recursive : (first : Option Refusal) → Comes (targets calls) n n → IsLeast (IsRecursive calls offsets n) first →
       IsLeast (IsRecursive calls offsets (n + 1)) (Some (earlier (refused code.PFRC0001 (get_or offsets n 0)) first))

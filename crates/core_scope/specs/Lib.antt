@@ -14,6 +14,7 @@ pub mod Open
 pub mod Kept
 pub mod Telling
 pub mod Search
+pub mod Ranks
 pub mod Leasts
 pub mod Gathering
 pub mod PassedBy

@@ -14,6 +14,7 @@ mod literals;
 mod names;
 mod pending;
 mod prolog;
+mod ranks;
 mod recursion;
 mod refusal;
 mod resolved_query;

@@ -2,10 +2,12 @@
 ghost use Rattle.std.specs.Prelude.{◌≡◌, ◌<◌, ◌+◌, IfOk, length};
 ghost use Rattle.core_scope.specs.Kinds.{IsRecursive};
 ghost use Rattle.core_scope.specs.Leasts.{IsLeast};
+ghost use Rattle.core_scope.specs.Ranks.{NeverRise};
 ghost use Rattle.core_scope.specs.Refusals.{Comes};
 ghost use Rattle.core_scope.specs.Search.{Decides, targets};
 
-use crate::refusal::{Refusal, earlier};
+use crate::ranks::{falling_ranks, falls};
+use crate::refusal::{Refusal, earlier, is_first};
 use crate::search::{Graph, Search};
 use std::alloc::Global;
 use xq_base::{Code, Want};
@@ -21,24 +23,33 @@ pub fn comes_to_itself(alloc: Global, graph: &Graph, node: usize) -> Result<bool
     Ok(search.is_marked(node))
 }
 
-/// The first refusal of a function that calls itself, of this number or one before it.
+/// The first refusal of a function that calls itself, of this number or one before it. No search is made where the ranks
+/// fall, or where the refusal wouldn't be the first: where they are the ranks of components, one search is made at most.
 fn recursive_at(
     alloc: Global,
     graph: &Graph,
+    ranks: &[u64],
     offsets: &[u64],
     node: usize,
     first: Option<Refusal>,
 ) -> Result<Option<Refusal>, Want>
     requires inside { node < length graph.now }
     requires same { length graph.now ≡ length offsets.now }
+    requires falling { NeverRise graph.now ranks.now }
     requires least { IsLeast (IsRecursive graph.now offsets.now node) first }
     ensures { IfOk result (λ o. IsLeast (IsRecursive graph.now offsets.now (node + 1)) o) }
 {
+    let refusal = Refusal {
+        code: Code::PFRC0001,
+        offset: offsets[node],
+    };
+    if falls(graph, ranks, node) {
+        return Ok(first);
+    }
+    if !is_first(refusal, first) {
+        return Ok(first);
+    }
     if comes_to_itself(alloc, graph, node)? {
-        let refusal = Refusal {
-            code: Code::PFRC0001,
-            offset: offsets[node],
-        };
         return Ok(Some(earlier(refusal, first)));
     }
     Ok(first)
@@ -53,9 +64,10 @@ pub fn first_recursive(
     requires { length graph.now ≡ length offsets.now }
     ensures { IfOk result (λ o. IsLeast (IsRecursive graph.now offsets.now (length offsets.now)) o) }
 {
+    let ranks = falling_ranks(alloc, graph)?;
     let mut first = None;
     for node in 0..offsets.len() {
-        first = recursive_at(alloc, graph, offsets, node, first)?;
+        first = recursive_at(alloc, graph, ranks.as_slice(), offsets, node, first)?;
     }
     Ok(first)
 }

@@ -76,6 +76,16 @@ pub fn earlier(a: Refusal, others: Option<Refusal>) -> Refusal
     }
 }
 
+/// Whether a refusal stands before the first so far, if there is one. It takes no memory.
+pub fn is_first(a: Refusal, first: Option<Refusal>) -> bool
+    ensures { result ≡ leasts.is_first a first }
+{
+    match first {
+        None => true,
+        Some(b) => is_before(a, b),
+    }
+}
+
 /// The first of two refusals, if there is one. It takes no memory.
 pub fn first_of_two(a: Option<Refusal>, b: Option<Refusal>) -> Option<Refusal>
     ensures { result ≡ leasts.first_of_two a b }
