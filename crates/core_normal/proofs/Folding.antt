@@ -1,14 +1,12 @@
 -- Loops that make one part after the other.
-use Rattle.std.proofs.Common.{◌≡◌, refl, sym, ap, ◌∙◌, subst, ℕ, ◌+◌, ◌<◌, ◌≤◌, List, [], ◌∷◌, ◌++◌, length, drop, get_or, Option}
+use Rattle.std.proofs.Common.{◌≡◌, refl, sym, ap, ◌∙◌, ℕ, ◌+◌, ◌<◌, ◌≤◌, List, [], ◌∷◌, length, drop, get_or, Option}
 use Rattle.std.proofs.lemmas.List.{drop_more, drop_all}
 use Rattle.core_meaning.specs.Erasure.{Texts}
 use Rattle.core_normal.specs.declared.pieces.Context.{Context}
 use Rattle.core_normal.specs.declared.bodies.Bodies.{Bodies}
 use Rattle.core_normal.specs.declared.bodies.State.{State}
-use Rattle.core_normal.specs.Fresh.{Made, Makes, give, ◌▷=◌}
-use Rattle.core_normal.specs.Around.{Around, Env}
+use Rattle.core_normal.specs.Around.{Around}
 use Rattle.core_normal.specs.Making.{HasEmpty, Making, MadeBy, SoFar, around_of}
-use Rattle.core_normal.specs.Standing.{Values, Stands, vars_in}
 use Rattle.core_normal.proofs.Made.{still}
 use Rattle.core_normal.proofs.NormForms.{made_with}
 

@@ -30,19 +30,18 @@ use Rattle.xq_ast.specs.declared.node.Part.TheVariants as part_
 use Rattle.xq_ast.specs.declared.node.QuantBind.{QuantBind}
 use Rattle.xq_ast.specs.declared.node.Right.{Right}
 use Rattle.xq_ast.specs.declared.node.Signed.{Signed}
-use Rattle.xq_ast.specs.declared.node.Slashes.TheVariants as slashes_
 use Rattle.xq_ast.specs.declared.node.Start.{Start}
 use Rattle.xq_ast.specs.declared.node.Step.{Step}
 use Rattle.xq_ast.specs.declared.node.StepKind.{StepKind}
 use Rattle.xq_ast.specs.declared.node.StepKind.TheVariants as step_
 use Rattle.xq_ast.specs.declared.node.ValuePart.{ValuePart}
 use Rattle.xq_ast.specs.declared.node.ValuePart.TheVariants as value_
-use Rattle.core_scope.specs.Syn.{Syn, Syns, Maybe, Binds, Keys, BuildName, Attributes, Values, Parts, resolved}
+use Rattle.core_scope.specs.Syn.{Syn, Maybe, Attributes, Values, resolved}
 use Rattle.core_scope.specs.Syn as s
 use Rattle.core_scope.specs.Erasure.{node_of, syns_of, with_signs, start_of, behind_of}
 use Rattle.core_scope.specs.Erasure as e
 use Rattle.core_scope.specs.Leaves.{ResolvedTree, resolved_leaves, run_of, sequence_of, syn_resolved}
-use Rattle.core_normal.specs.Trees.{syns, maybe, rights, step_kind, step, behinds, for_binds, let_binds, quant_binds, clause, clauses, keys, name, value, values, attributes, part, parts, type_of, position}
+use Rattle.core_normal.specs.Trees.{syns, maybe, rights, step, behinds, for_binds, let_binds, quant_binds, clauses, keys, name, value, values, attributes, parts, type_of, position}
 
 module _ (t : List Text) where
   mapped_rights : List (Right ResolvedTree) → List (Right (Syn resolved))

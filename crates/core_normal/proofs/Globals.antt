@@ -1,7 +1,7 @@
 -- The prolog's variables stay where own variables move.
-use Rattle.std.proofs.Common.{◌≡◌, refl, ap, ◌∙◌, ℕ, zero, suc, ◌+◌, ◌*◌, ◌<◌, ◌≤◌, nat_lt, Bool, true, false, Option, Some, None, List, [], ◌∷◌, arith}
+use Rattle.std.proofs.Common.{◌≡◌, refl, ap, ◌∙◌, ℕ, ◌+◌, ◌*◌, ◌<◌, ◌≤◌, Option, Some, None, List, [], ◌∷◌, arith}
 use Rattle.core_meaning.specs.Types.{SequenceTest}
-use Rattle.core_scope.specs.Syn.{Declaration, Query, resolved}
+use Rattle.core_scope.specs.Syn.{Declaration, resolved}
 use Rattle.core_scope.specs.Syn as s
 use Rattle.core_normal.specs.Around.{Env, no_vars}
 use Rattle.core_normal.specs.Query.{globals, global_of, variables, functions}

@@ -1,5 +1,5 @@
 -- Places of levels, signs and paths.
-use Rattle.std.proofs.Common.{◌≡◌, refl, sym, ◌∙◌, ap, ℕ, List, [], ◌∷◌, Option, Some, None}
+use Rattle.std.proofs.Common.{◌≡◌, refl, sym, ◌∙◌, ap, ℕ, List, [], ◌∷◌}
 use Rattle.xq_base.specs.declared.axis.Axis.{Axis}
 use Rattle.xq_base.specs.declared.item.TextId.{TextId}
 use Rattle.xq_base.specs.Texts.{Text}
@@ -13,7 +13,7 @@ use Rattle.xq_ast.specs.declared.node.Step.{Step}
 use Rattle.xq_ast.specs.declared.node.StepKind.{StepKind}
 use Rattle.xq_ast.specs.declared.node.StepKind.TheVariants as step_
 use Rattle.xq_ast.specs.declared.node.Node.TheVariants as n
-use Rattle.core_scope.specs.Syn.{Syn, Maybe, Syns, resolved, place_of}
+use Rattle.core_scope.specs.Syn.{Syn, resolved, place_of}
 use Rattle.core_scope.specs.Syn as s
 use Rattle.core_scope.specs.Erasure.{all_below, behind_of, start_of, with_predicates, with_signs}
 use Rattle.core_scope.specs.Leaves.{ResolvedTree, syn_resolved}

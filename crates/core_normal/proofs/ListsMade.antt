@@ -1,24 +1,24 @@
 -- Lists of expressions, and operators of a level.
-use Rattle.std.proofs.Common.{◌≡◌, refl, sym, ap, ◌∙◌, ℕ, ◌+◌, ◌<◌, ◌≤◌, List, [], ◌∷◌, ◌++◌, map, length, drop, get_or, Option}
+use Rattle.std.proofs.Common.{◌≡◌, refl, sym, ap, ◌∙◌, ℕ, ◌+◌, ◌<◌, ◌≤◌, List, [], ◌∷◌, ◌++◌, length, drop, get_or, Option}
 use Rattle.std.proofs.lemmas.List.{map-append}
 use Rattle.core_meaning.specs.declared.node.Core.{Core}
 use Rattle.core_meaning.specs.Erasure.{Texts, core_of, cores_of}
 use Rattle.core_meaning.specs.PlainCore.{PlainCore, PlainCores}
 use Rattle.core_meaning.specs.PlainCore as c
 use Rattle.xq_ast.specs.declared.node.Right.{Right}
-use Rattle.core_scope.specs.Syn.{Syn, Syns, resolved, place_of}
+use Rattle.core_scope.specs.Syn.{place_of}
 use Rattle.core_scope.specs.Syn as s
 use Rattle.core_scope.specs.Leaves.{ResolvedTree, syn_resolved}
 use Rattle.core_normal.specs.declared.pieces.Context.{Context}
 use Rattle.core_normal.specs.declared.bodies.Bodies.{Bodies}
 use Rattle.core_normal.specs.declared.bodies.State.{State}
-use Rattle.core_normal.specs.Fresh.{Made, Makes, give, ◌▷=◌}
-use Rattle.core_normal.specs.Around.{Around, Env}
+use Rattle.core_normal.specs.Fresh.{Made, give, ◌▷=◌}
+use Rattle.core_normal.specs.Around.{Around}
 use Rattle.core_normal.specs.Pieces.{chain, fun_of, operand, two}
 use Rattle.core_normal.specs.Normal.{norm, norm_all}
 use Rattle.core_normal.specs.Stepping.{next_operands}
 use Rattle.core_normal.specs.Trees.{rights, syns}
-use Rattle.core_normal.specs.Making.{HasEmpty, Making, MadeBy, SoFar, all_in, around_of, bodies_in, before_cores, cores_in, normed, normed_all, normed_rights}
+use Rattle.core_normal.specs.Making.{Making, MadeBy, SoFar, all_in, around_of, bodies_in, before_cores, cores_in, normed, normed_all, normed_rights}
 use Rattle.core_normal.proofs.Folding.{turn, finish, all_left, made_as}
 use Rattle.core_normal.proofs.Made.{then_made, given}
 use Rattle.core_normal.proofs.NormForms.{made_with, next_operands_law}

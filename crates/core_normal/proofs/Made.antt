@@ -1,5 +1,5 @@
 -- One making behind another, and the forms whose parts are single expressions.
-use Rattle.std.proofs.Common.{◌≡◌, refl, sym, ap, ◌∙◌, ℕ, ℤ, Bool, List, [], ◌∷◌, Option, Some, None}
+use Rattle.std.proofs.Common.{◌≡◌, refl, sym, ap, ◌∙◌, ℕ, Bool, List, [], ◌∷◌, Option}
 use Rattle.xq_base.specs.declared.fun.AtomKind.{AtomKind}
 use Rattle.core_meaning.specs.declared.node.Core.{Core}
 use Rattle.core_meaning.specs.Erasure.{Texts, core_of}
@@ -19,7 +19,7 @@ use Rattle.core_normal.specs.Pieces.{Inlined, boolean, signed_core}
 use Rattle.core_normal.specs.Normal.{norm}
 use Rattle.core_normal.specs.Forming.{signed_all}
 use Rattle.core_normal.specs.Making.{HasEmpty, Making, MadeBy, around_of, bodies_in, normed}
-use Rattle.core_normal.specs.Standing.{Values, Stands, vars_in}
+use Rattle.core_normal.specs.Standing.{Values, Stands}
 use Rattle.core_normal.proofs.NormForms.{made_with}
 
 -- the same bindings stand for what is visible later

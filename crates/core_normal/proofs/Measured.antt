@@ -1,5 +1,5 @@
 -- Both sizes of a Core at once, and what is known of the sizes of declared functions' bodies.
-use Rattle.std.proofs.Common.{◌≡◌, refl, arith, ℕ, ◌+◌, max, List, [], ◌∷◌, Option}
+use Rattle.std.proofs.Common.{◌≡◌, refl, arith, ℕ, List, [], ◌∷◌, Option}
 use Rattle.core_meaning.specs.Types.{SequenceTest}
 use Rattle.core_meaning.specs.PlainCore.{PlainCore, PlainCores, Binds, Keys}
 use Rattle.core_meaning.specs.PlainCore as c

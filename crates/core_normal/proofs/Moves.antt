@@ -1,5 +1,5 @@
 -- What is made with d variables made before is what is made with none, moved by d.
-use Rattle.std.proofs.Common.{◌≡◌, refl, sym, ◌∙◌, ap, ℕ, zero, suc, ◌+◌, ◌<◌, ◌≤◌, nat_lt, nat_eq, Bool, true, false, cond, ◌&&◌, Option, Some, None, List, [], ◌∷◌, arith}
+use Rattle.std.proofs.Common.{◌≡◌, refl, sym, ◌∙◌, ap, ℕ, zero, suc, ◌+◌, ◌<◌, ◌≤◌, nat_eq, Bool, true, false, cond, Option, Some, None, List, [], ◌∷◌, arith}
 use Rattle.xq_base.specs.declared.axis.Axis.{Axis}
 use Rattle.xq_base.specs.declared.fun.AtomKind.{AtomKind}
 use Rattle.xq_base.specs.declared.fun.Fun.{Fun}
@@ -16,9 +16,9 @@ use Rattle.xq_ast.specs.declared.leaf.Callee.TheVariants as callee
 use Rattle.xq_ast.specs.declared.leaf.Operator.{Operator}
 use Rattle.xq_ast.specs.declared.leaf.Quantifier.TheVariants as quantifier
 use Rattle.xq_ast.specs.declared.leaf.Sign.TheVariants as sign
-use Rattle.core_scope.specs.Syn.{Syn, Syns, Maybe, Binds, Keys, BuildName, Attributes, Values, Parts, Params, resolved, place_of}
+use Rattle.core_scope.specs.Syn.{Syn, Syns, Maybe, Binds, Keys, BuildName, Attributes, Values, Parts, Params, resolved}
 use Rattle.core_scope.specs.Syn as s
-use Rattle.core_normal.specs.Fresh.{Made, Makes, give, fresh, ◌▷=◌}
+use Rattle.core_normal.specs.Fresh.{Made, Makes}
 use Rattle.core_normal.specs.Around as ar
 use Rattle.core_normal.specs.Around.{Known, Env, Focus, Around, outside}
 use Rattle.core_normal.specs.Pieces as n

@@ -1,13 +1,10 @@
 -- The Core of each form, by those of its parts in the order in which they are made.
-use Rattle.std.proofs.Common.{◌≡◌, refl, sym, ap, ◌∙◌, ℕ, ℤ, ◌+◌, Bool, List, [], ◌∷◌, Option, Some, None}
-use Rattle.xq_base.specs.declared.fun.AtomKind.{AtomKind}
+use Rattle.std.proofs.Common.{◌≡◌, refl, sym, ap, ◌∙◌, ℕ, ℤ, List, [], ◌∷◌}
 use Rattle.xq_base.specs.declared.item.TextId.{TextId}
 use Rattle.xq_base.specs.Atoms.{IntAtom}
 use Rattle.xq_base.specs.Texts.{Text}
-use Rattle.doc_table.specs.Tree.{text_in}
 use Rattle.core_meaning.specs.PlainCore.{PlainCore}
 use Rattle.core_meaning.specs.PlainCore as c
-use Rattle.xq_ast.specs.declared.leaf.SeqType.{SeqType}
 use Rattle.xq_ast.specs.declared.node.Behind.{Behind}
 use Rattle.xq_ast.specs.declared.node.Node.TheVariants as n
 use Rattle.xq_ast.specs.declared.node.Right.{Right}
@@ -16,17 +13,17 @@ use Rattle.xq_ast.specs.declared.node.Slashes.TheVariants as slashes_
 use Rattle.xq_ast.specs.declared.node.Step.{Step}
 use Rattle.xq_ast.specs.declared.node.StepKind.{StepKind}
 use Rattle.xq_ast.specs.declared.node.StepKind.TheVariants as step_
-use Rattle.core_scope.specs.Syn.{Syn, Syns, Maybe, resolved, place_of}
+use Rattle.core_scope.specs.Syn.{Syn, Syns, resolved, place_of}
 use Rattle.core_scope.specs.Syn as s
-use Rattle.core_scope.specs.Erasure.{behind_of, with_predicates, with_signs}
-use Rattle.core_scope.specs.Leaves.{ResolvedTree, sequence_of, syn_resolved}
-use Rattle.core_normal.specs.Fresh.{Made, Makes, give, fresh, ◌▷=◌}
-use Rattle.core_normal.specs.Around.{Around, found, focused}
-use Rattle.core_normal.specs.Pieces.{Inlined, boolean, dot_at, root_at, text_lit}
-use Rattle.core_normal.specs.Normal.{norm, norm_all, predicates}
+use Rattle.core_scope.specs.Erasure.{behind_of, with_predicates}
+use Rattle.core_scope.specs.Leaves.{ResolvedTree, syn_resolved}
+use Rattle.core_normal.specs.Fresh.{Made, Makes, give, ◌▷=◌}
+use Rattle.core_normal.specs.Around.{Around}
+use Rattle.core_normal.specs.Pieces.{Inlined, boolean}
+use Rattle.core_normal.specs.Normal.{norm, predicates}
 use Rattle.core_normal.specs.Trees.{behinds, rights, step, syns}
-use Rattle.core_normal.specs.Stepping.{behind_slashes, first_step, next_kind, next_operands, next_step, next_steps}
-use Rattle.core_normal.proofs.Forms.{syn_if, syn_integer, syn_text, syn_var, syn_dot, syn_root, syn_instance, syn_treat, syn_cast, syn_castable, syn_chain, syn_path}
+use Rattle.core_normal.specs.Stepping.{behind_slashes, first_step, next_operands, next_step, next_steps}
+use Rattle.core_normal.proofs.Forms.{syn_if, syn_integer}
 
 abbrev pub made_with : {A : Type 0} → A → ℕ → Made A
 made_with x k = record { made = x; next = k }

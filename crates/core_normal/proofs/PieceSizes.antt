@@ -1,5 +1,5 @@
 -- The size of a piece of a Core is what `Sizes` tells of its parts.
-use Rattle.std.proofs.Common.{◌≡◌, refl, ap, ℕ, Bool, true, false, cond, Option, Some, None, List, [], ◌∷◌, ◌+◌}
+use Rattle.std.proofs.Common.{◌≡◌, refl, ap, ℕ, Bool, true, false, cond, Option, Some, None, List, [], ◌∷◌}
 use Rattle.xq_base.specs.declared.axis.Axis.{Axis}
 use Rattle.xq_base.specs.declared.fun.AtomKind.{AtomKind}
 use Rattle.xq_base.specs.declared.fun.Fun.{Fun}
@@ -12,9 +12,9 @@ use Rattle.core_meaning.specs.PlainCore as c
 use Rattle.xq_ast.specs.declared.leaf.Operator.{Operator}
 use Rattle.core_normal.specs.Around.{Focus}
 use Rattle.core_normal.specs.Pieces as n
-use Rattle.core_normal.specs.Pieces.{Inlined, Tail, dot_at, place_at, last_at, counted}
+use Rattle.core_normal.specs.Pieces.{Tail, dot_at, place_at, last_at, counted}
 use Rattle.core_normal.specs.Sizes as sz
-use Rattle.core_normal.specs.Sizes.{Size, nothing, beside, over}
+use Rattle.core_normal.specs.Sizes.{Size, beside, over}
 use Rattle.core_normal.proofs.Measured.{size, size_all, size_binds, size_keys, sizes, AsLong}
 
 pub size_of_path : (a b : PlainCore) (x y : Size) → size a ≡ x → size b ≡ y → over (sz.one (over (beside (size a) (size b)))) ≡ over (sz.one (over (beside x y)))

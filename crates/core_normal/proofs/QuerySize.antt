@@ -1,16 +1,14 @@
 -- The size of the Core of a query is what its syntax tells.
-use Rattle.std.proofs.Common.{◌≡◌, refl, sym, ap, ◌∙◌, ℕ, zero, suc, ◌+◌, List, [], ◌∷◌, Option, Some, None}
+use Rattle.std.proofs.Common.{◌≡◌, refl, sym, ap, ◌∙◌, ℕ, zero, suc, ◌+◌, List, [], ◌∷◌}
 use Rattle.core_meaning.specs.Size as m
 use Rattle.core_scope.specs.Syn.{Syn, Declaration, Params, Query, resolved}
 use Rattle.core_scope.specs.Syn as s
 use Rattle.core_normal.specs.Fresh.{Makes}
-use Rattle.core_normal.specs.Around.{Env, outside}
+use Rattle.core_normal.specs.Around.{Env}
 use Rattle.core_normal.specs.Pieces.{Inlined}
-use Rattle.core_normal.specs.Normal.{norm}
 use Rattle.core_normal.specs.Sizes.{FunSize}
-use Rattle.core_normal.specs.Sized.{sized}
 use Rattle.core_normal.specs.SizedQuery.{size_at, sizes_within, prolog_size, query_size}
-use Rattle.core_normal.specs.Query.{Function, functions, types_of, entered, body_at, bodies_within, prolog, count, core_of_query}
+use Rattle.core_normal.specs.Query.{Function, functions, types_of, entered, body_at, bodies_within, prolog, core_of_query}
 use Rattle.core_normal.specs.Laws.{SizeIsFound}
 use Rattle.core_normal.proofs.Measured.{size, Agree, HasSize, AsLong, nodes_law, levels_law}
 use Rattle.core_normal.proofs.PieceSizes.{size_of_converted, size_of_tested}

@@ -1,5 +1,5 @@
 -- The size of the Core of an expression is what its syntax tells.
-use Rattle.std.proofs.Common.{◌≡◌, refl, ap, ℕ, Bool, true, false, cond, Option, Some, None, List, [], ◌∷◌, ◌+◌, ◌&&◌}
+use Rattle.std.proofs.Common.{◌≡◌, refl, ap, ℕ, Bool, true, false, Option, Some, List, ◌+◌, ◌&&◌}
 use Rattle.core_meaning.specs.PlainCore.{PlainCore, PlainCores}
 use Rattle.core_meaning.specs.PlainCore as c
 use Rattle.xq_ast.specs.declared.leaf.Callee.{Callee}
@@ -8,18 +8,18 @@ use Rattle.xq_ast.specs.declared.leaf.Quantifier.TheVariants as quantifier
 use Rattle.xq_ast.specs.declared.leaf.Sign.TheVariants as sign
 use Rattle.core_scope.specs.Syn.{Syn, Syns, Maybe, Binds, Keys, BuildName, Attributes, Values, Parts, resolved, place_of}
 use Rattle.core_scope.specs.Syn as s
-use Rattle.core_normal.specs.Fresh.{Made, Makes, give, fresh, ◌▷=◌}
-use Rattle.core_normal.specs.Around.{Focus, Around, known, focused}
+use Rattle.core_normal.specs.Fresh.{Makes}
+use Rattle.core_normal.specs.Around.{Focus, Around}
 use Rattle.core_normal.specs.Pieces as n
 use Rattle.core_normal.specs.Pieces.{Inlined, Tail, selected}
 use Rattle.core_normal.specs.Normal as nf
-use Rattle.core_normal.specs.Normal.{norm, with_place}
+use Rattle.core_normal.specs.Normal.{norm}
 use Rattle.core_normal.specs.Sizes as sz
-use Rattle.core_normal.specs.Sizes.{Size, nothing, beside, over, FunSize}
+use Rattle.core_normal.specs.Sizes.{Size, beside, over, FunSize}
 use Rattle.core_normal.specs.Sized as z
 use Rattle.core_normal.specs.Sized.{sized}
 use Rattle.core_normal.proofs.Measured.{size, size_all, size_binds, size_keys, sizes, Agree, HasSize}
-use Rattle.core_normal.proofs.PieceSizes.{size_of_path, size_of_chain, size_of_converted, size_of_counted, size_of_operand, size_of_tested, open_focus, size_of_call, size_of_params, same_size, TailSize, run_law, brace_law, size_sorted, element_law, for_bind_law, let_bind_law, attribute_law}
+use Rattle.core_normal.proofs.PieceSizes.{size_of_path, size_of_chain, size_of_counted, size_of_operand, size_of_tested, open_focus, size_of_call, size_of_params, same_size, TailSize, run_law, brace_law, size_sorted, element_law, for_bind_law, let_bind_law, attribute_law}
 
 trans : {A : Type 0} {a b d : A} → a ≡ b → b ≡ d → a ≡ d
 trans p q = cc

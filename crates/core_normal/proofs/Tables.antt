@@ -39,11 +39,11 @@ module _ (t : Texts) where
   written None = refl
   written (Some ty) = refl
 
-  typed_law : (ps : List (Param ℕ SeqType)) → m.typed ps ≡ has_types (types_of (params_of (resolved_leaves t) AsResolved ps))
+  pub typed_law : (ps : List (Param ℕ SeqType)) → m.typed ps ≡ has_types (types_of (params_of (resolved_leaves t) AsResolved ps))
   typed_law [] = refl
   typed_law (p ∷ ps) = ap (λ b. b ∷ m.typed ps) (written p.ty) ∙ ap (λ bs. has_type (e.type_of (resolved_leaves t) p.ty) ∷ bs) (typed_law ps)
 
-  converted_ends : {must : Bool} (ty : Option SeqType) {h : Held} {a : Size} → Ends must h a → Ends must (m.converted (is_some ty) h) (converted (e.type_of (resolved_leaves t) ty) a)
+  pub converted_ends : {must : Bool} (ty : Option SeqType) {h : Held} {a : Size} → Ends must h a → Ends must (m.converted (is_some ty) h) (converted (e.type_of (resolved_leaves t) ty) a)
   converted_ends None p = p
   converted_ends (Some ty) p = over_ends p
 
@@ -144,9 +144,19 @@ measured q h p =
     measured_at q h (nat_lt 65536 h.nodes || nat_lt 4096 h.levels) refl n l
     (sym (ap (λ b. b || nat_lt 4096 h.levels) at_nodes ∙ ap (λ b. nat_lt 65536 (nodes (core_of_query q)) || b) at_levels))
 
-pub measured_is : (t : Texts) (q : ResolvedQuery) (table : List HeldFun) (r : Round) (x h : Held) (c : CoreSize) → m.IsTable t q.prolog.declarations table → r ≡ m.prolog table z.bare q.prolog.declarations → x ≡ size_of table q.body → h ≡ z.filled r x → c ≡ m.within h →
+pub measured_is : (t : Texts) (q : ResolvedQuery) (table : List HeldFun) (h : Held) (c : CoreSize) → m.IsTable t false q.prolog.declarations table → h ≡ m.whole table q.prolog.declarations q.body → c ≡ m.within h →
     m.Measures (query_resolved t q) c
-measured_is t q table r x h c known p s d e =
-    subst (λ u. m.Measures (query_resolved t q) u) (sym e)
-    (subst (λ u. m.Measures (query_resolved t q) (m.within u)) (sym (d ∙ ap (λ u. z.filled u x) p ∙ ap (λ u. z.filled (m.prolog table z.bare q.prolog.declarations) u) s))
-    (measured (query_resolved t q) (z.filled (m.prolog table z.bare q.prolog.declarations) (size_of table q.body)) (whole_ends t false q.prolog.declarations q.body table known)))
+measured_is t q table h c known p e =
+    subst (λ u. m.Measures (query_resolved t q) u) (sym (e ∙ ap m.within p))
+    (measured (query_resolved t q) (m.whole table q.prolog.declarations q.body) (whole_ends t false q.prolog.declarations q.body table known))
+
+-- a size that is known is told
+told : (h : Held) (a : Size) → Ends true h a → h.is_known ≡ true → Ends false h a
+told h a p k = record { nodes = λ _. p.nodes k; levels = λ _. p.levels k }
+
+pub known_is : (t : Texts) (q : ResolvedQuery) (table : List HeldFun) (h : Held) (c : CoreSize) → m.IsTable t true q.prolog.declarations table → h ≡ m.whole table q.prolog.declarations q.body → h.is_known ≡ true → c ≡ m.within h →
+    m.Measures (query_resolved t q) c
+known_is t q table h c known p k e =
+    subst (λ u. m.Measures (query_resolved t q) u) (sym (e ∙ ap m.within p))
+    (measured (query_resolved t q) (m.whole table q.prolog.declarations q.body)
+    (told (m.whole table q.prolog.declarations q.body) (query_size (query_resolved t q)) (whole_ends t true q.prolog.declarations q.body table known) (sym (ap (λ u. u.is_known) p) ∙ k)))

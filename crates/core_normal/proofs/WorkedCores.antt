@@ -1,6 +1,6 @@
 -- Worked examples: the Cores of queries, one query a row. Each was found a second time by a program that follows the same
 -- rules apart from these definitions.
-use Rattle.std.proofs.Common.{◌≡◌, refl, ℕ, true, false, Option, Some, None, List, [], ◌∷◌, codes, pos}
+use Rattle.std.proofs.Common.{◌≡◌, refl, true, false, Some, None, [], ◌∷◌, codes, pos}
 use Rattle.xq_base.specs.declared.axis.Axis.TheVariants as axis
 use Rattle.xq_base.specs.declared.code.Code.TheVariants as code
 use Rattle.xq_base.specs.declared.fun.AtomKind.TheVariants as kind

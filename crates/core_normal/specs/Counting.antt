@@ -55,6 +55,10 @@ of nodes levels = record { nodes = nodes; levels = levels; is_known = true }
 abbrev pub nothing : Size
 nothing = of 0 0
 
+-- a part of which nothing is known yet
+abbrev pub unknown : Size
+unknown = record { nodes = 0; levels = 0; is_known = false }
+
 abbrev pub leaf : Size
 leaf = of 1 1
 

@@ -22,5 +22,16 @@ pub mod Ends
 pub mod Measuring
 pub mod LastPlace
 pub mod Shift
+pub mod Copying
 pub mod Laws
 pub mod Contents
+pub mod Calls
+pub mod Ordered
+pub mod Sound
+pub mod Finding
+pub mod Order
+pub mod Settling
+pub mod Calling
+pub mod Templating
+pub mod Prologue
+pub mod Outcomes

@@ -44,9 +44,14 @@ types_in t = map (type_in t)
 abbrev pub template_of : Texts → Template → Made Inlined
 template_of t b = record { made = record { vars = b.vars.items; types = types_in t b.types.items; body = core_of t b.body; result = type_in t b.result }; next = b.made }
 
-abbrev pub template_at : Texts → List Template → ℕ → Made Inlined
+-- the body of this number, as far as it is made
+abbrev pub template_in : Texts → Option Template → Made Inlined
+template_in t None = give no_function 0
+template_in t (Some b) = template_of t b
+
+abbrev pub template_at : Texts → List (Option Template) → ℕ → Made Inlined
 template_at t [] k = give no_function 0
-template_at t (b ∷ bs) zero = template_of t b
+template_at t (b ∷ bs) zero = template_in t b
 template_at t (b ∷ bs) (suc k) = template_at t bs k
 
 -- each call has a copy with its new variables moved

@@ -19,7 +19,7 @@ use Rattle.core_normal.specs.Limits as limits
 use Rattle.core_normal.specs.Limits.{Normalises, is_too_large, max_nodes, max_levels}
 use Rattle.core_normal.specs.Query.{core_of_query, functions, count}
 use Rattle.core_normal.specs.SizedQuery.{sizes_within}
-use Rattle.core_normal.specs.Counting.{size_of, over, bind}
+use Rattle.core_normal.specs.Counting.{size_of, over, bind, bare, filled}
 use Rattle.core_normal.specs.Ends.{Known}
 
 abbrev pub Declarations : Type 0
@@ -53,13 +53,17 @@ prolog table r [] = r
 prolog table r (declaration_.Var at x ty e ∷ ds) = prolog table (bind false (is_some ty) r (size_of table e)) ds
 prolog table r (declaration_.Fun at n ps ty e ∷ ds) = prolog table r ds
 
+-- the size of the Core of a query
+abbrev pub whole : List FunSize → Declarations → ResolvedTree → Size
+whole table ds w = filled (prolog table bare ds) (size_of table w)
+
 module _ (t : Texts) where
   abbrev pub declarations : Declarations → List (Declaration resolved)
   declarations = map (declaration_of (resolved_leaves t) AsResolved)
 
-  -- the sizes of the declared functions, with calls inside them as deep as there are functions
-  abbrev pub IsTable : Declarations → List FunSize → Type 0
-  IsTable ds table = Known false table (sizes_within (count (functions (declarations ds))) (functions (declarations ds)))
+  -- the sizes of the declared functions, with calls inside them as deep as there are functions; those that are known, where they must be
+  abbrev pub IsTable : Bool → Declarations → List FunSize → Type 0
+  IsTable must ds table = Known must table (sizes_within (count (functions (declarations ds))) (functions (declarations ds)))
 
 abbrev pub within : Size → CoreSize
 within a = cond (nat_lt max_nodes a.nodes || nat_lt max_levels a.levels) (m.TooLarge a.nodes a.levels) m.Fits

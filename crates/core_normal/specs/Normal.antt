@@ -1,5 +1,5 @@
 -- The Core of a resolved expression (Formal Semantics, section 4), form by form.
-use Rattle.std.specs.Prelude.{ℕ, ◌+◌, ◌&&◌, Bool, true, false, cond, Option, Some, None, List, [], ◌∷◌}
+use Rattle.std.specs.Prelude.{ℕ, ◌&&◌, Bool, true, false, cond, Option, Some, None, []}
 use Rattle.xq_base.specs.declared.fun.Fun.TheVariants as fun
 use Rattle.xq_base.specs.Atoms.{IntAtom}
 use Rattle.doc_table.specs.Tree.{AttributeNode, ElementNode, CommentNode, InstructionNode}
@@ -11,7 +11,7 @@ use Rattle.xq_ast.specs.declared.leaf.Callee.{Callee}
 use Rattle.xq_ast.specs.declared.leaf.Callee.TheVariants as callee
 use Rattle.core_scope.specs.Syn.{Syn, Syns, Maybe, Binds, Keys, BuildName, Attributes, Values, Parts, resolved, place_of}
 use Rattle.core_scope.specs.Syn as s
-use Rattle.core_normal.specs.Fresh.{Made, Makes, give, fresh, ◌▷=◌}
+use Rattle.core_normal.specs.Fresh.{Makes, give, fresh, ◌▷=◌}
 use Rattle.core_normal.specs.Around.{Focus, Around, found, known, focused}
 use Rattle.core_normal.specs.Pieces.{boolean, ordered, text_lit, node_kind, counted, dot_at, root_at, selected, for_each_node, built_in_call, Inlined, inlined, chain, sequence, value_of, text_node, witness, quantified, fun_of, operand, signed_core, tested, tested_bind, Tail, led_by, sorted_core, one, two}
 

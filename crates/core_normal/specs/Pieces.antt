@@ -1,5 +1,5 @@
 -- Small pieces of a Core (Formal Semantics, section 4), each at a place in the query.
-use Rattle.std.specs.Prelude.{ℕ, suc, Bool, true, false, cond, Option, Some, None, List, [], ◌∷◌, ℤ, pos}
+use Rattle.std.specs.Prelude.{ℕ, Bool, true, false, cond, Option, Some, None, List, [], ◌∷◌, pos}
 use Rattle.xq_base.specs.declared.axis.Axis.{Axis}
 use Rattle.xq_base.specs.declared.axis.Axis.TheVariants as axis
 use Rattle.xq_base.specs.declared.code.Code.TheVariants as code
@@ -13,7 +13,7 @@ use Rattle.doc_table.specs.Tree.{NodeKind, DocumentNode, ElementNode, AttributeN
 use Rattle.doc_table.specs.Axes.{Test, AnyNode, IsDocumentNode}
 use Rattle.core_meaning.specs.declared.node.Occurs.TheVariants as occurs
 use Rattle.core_meaning.specs.Types.{AtomOf, NodeOf, SequenceTest, ItemsOf}
-use Rattle.core_meaning.specs.PlainCore.{PlainCore, PlainCores, PlainBind, Binds, Keys}
+use Rattle.core_meaning.specs.PlainCore.{PlainCore, PlainCores, Binds, Keys}
 use Rattle.core_meaning.specs.PlainCore as c
 use Rattle.xq_ast.specs.declared.leaf.Operator.{Operator}
 use Rattle.xq_ast.specs.declared.leaf.Operator.TheVariants as op

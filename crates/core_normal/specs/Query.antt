@@ -1,13 +1,13 @@
 -- The Core of a whole query (XQuery 1.0, sections 4.14 and 4.15). The variables of the prolog have the first numbers, two each:
 -- for the value, and for the value whose type is tested. A declared function's body is made anew at each call, with new variables.
-use Rattle.std.specs.Prelude.{ℕ, zero, suc, ◌+◌, ◌*◌, List, [], ◌∷◌, length, Option, Some, None}
+use Rattle.std.specs.Prelude.{ℕ, zero, suc, ◌+◌, ◌*◌, List, [], ◌∷◌, Option, Some, None}
 use Rattle.core_meaning.specs.Types.{SequenceTest}
 use Rattle.core_meaning.specs.PlainCore.{PlainCore}
 use Rattle.core_meaning.specs.PlainCore as c
 use Rattle.core_scope.specs.Syn.{Syn, Declaration, Params, Query, resolved, place_of}
 use Rattle.core_scope.specs.Syn as s
-use Rattle.core_normal.specs.Fresh.{Made, Makes, give, fresh, ◌▷=◌}
-use Rattle.core_normal.specs.Around.{Env, no_vars, with_var, Around, outside}
+use Rattle.core_normal.specs.Fresh.{Makes, give, fresh, ◌▷=◌}
+use Rattle.core_normal.specs.Around.{Env, no_vars, with_var, outside}
 use Rattle.core_normal.specs.Pieces.{Inlined, tested}
 use Rattle.core_normal.specs.Normal.{norm}
 

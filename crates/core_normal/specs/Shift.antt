@@ -3,7 +3,7 @@ use Rattle.std.specs.Prelude.{ℕ, ◌+◌, nat_lt, cond, Option, Some, None, Li
 use Rattle.core_meaning.specs.PlainCore.{PlainCore, PlainCores, Keys}
 use Rattle.core_meaning.specs.PlainCore as c
 use Rattle.core_normal.specs.Fresh.{Made}
-use Rattle.core_normal.specs.Around.{Known, Env, Focus, Around}
+use Rattle.core_normal.specs.Around.{Env, Focus, Around}
 use Rattle.core_normal.specs.Pieces.{Inlined, Tail}
 
 module _ (base d : ℕ) where

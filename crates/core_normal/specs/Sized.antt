@@ -1,5 +1,5 @@
 -- How large the Core of a resolved expression is, found without the Core, form by form.
-use Rattle.std.specs.Prelude.{ℕ, ◌&&◌, Bool, true, false, cond, Option, Some, None, List, [], ◌∷◌}
+use Rattle.std.specs.Prelude.{ℕ, ◌&&◌, Bool, true, false, cond, List, [], ◌∷◌}
 use Rattle.xq_ast.specs.declared.leaf.Callee.{Callee}
 use Rattle.xq_ast.specs.declared.leaf.Callee.TheVariants as callee
 use Rattle.core_scope.specs.Syn.{Syn, Syns, Maybe, Binds, Keys, BuildName, Attributes, Values, Parts, resolved}

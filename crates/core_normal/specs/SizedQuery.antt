@@ -1,5 +1,5 @@
 -- How large the Core of a whole query is, found without the Core.
-use Rattle.std.specs.Prelude.{ℕ, zero, suc, List, [], ◌∷◌, Option}
+use Rattle.std.specs.Prelude.{ℕ, zero, suc, List, [], ◌∷◌}
 use Rattle.core_scope.specs.Syn.{Syn, Declaration, Query, resolved}
 use Rattle.core_scope.specs.Syn as s
 use Rattle.core_normal.specs.Sizes.{Size, beside, over, FunSize, leaf, converted, tested}

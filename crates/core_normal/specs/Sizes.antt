@@ -1,5 +1,5 @@
 -- How many nodes and levels pieces of a Core have, by those of their parts.
-use Rattle.std.specs.Prelude.{ℕ, ◌+◌, Bool, cond, max, Option, Some, None, List, [], ◌∷◌}
+use Rattle.std.specs.Prelude.{ℕ, ◌+◌, cond, max, Option, Some, None, List, [], ◌∷◌}
 use Rattle.xq_base.specs.declared.axis.Axis.{Axis}
 use Rattle.xq_base.specs.declared.fun.Fun.{Fun}
 use Rattle.xq_base.specs.declared.fun.Fun.TheVariants as fun

@@ -1,5 +1,5 @@
 -- The Core of steps and operators over that of what stands before them, part by part (Formal Semantics, section 4.2).
-use Rattle.std.specs.Prelude.{ℕ, ◌+◌, List, [], ◌∷◌, Option, Some, None}
+use Rattle.std.specs.Prelude.{ℕ, List, [], ◌∷◌}
 use Rattle.xq_base.specs.declared.axis.Axis.{Axis}
 use Rattle.xq_base.specs.declared.axis.Axis.TheVariants as axis_
 use Rattle.xq_base.specs.declared.item.TextId.{TextId}
@@ -16,7 +16,7 @@ use Rattle.xq_ast.specs.declared.node.Slashes.TheVariants as slashes_
 use Rattle.xq_ast.specs.declared.node.Step.{Step}
 use Rattle.xq_ast.specs.declared.node.StepKind.{StepKind}
 use Rattle.xq_ast.specs.declared.node.StepKind.TheVariants as step_
-use Rattle.core_scope.specs.Syn.{Syn, Syns, resolved, place_of}
+use Rattle.core_scope.specs.Syn.{Syns, resolved, place_of}
 use Rattle.core_scope.specs.Syn as s
 use Rattle.core_scope.specs.Erasure.{test_of}
 use Rattle.core_scope.specs.Leaves.{ResolvedTree, syn_resolved}

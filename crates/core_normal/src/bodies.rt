@@ -17,12 +17,11 @@ pub struct Template {
     pub made: u32,
 }
 
-/// Where new variables begin, and the bodies by the numbers of their functions. One that isn't there
-/// counts as one that is empty.
+/// Where new variables begin, and the bodies by the numbers of their functions, each as soon as it is made.
 #[derive(Drop)]
 pub struct Bodies {
     pub base: u32,
-    pub templates: Vec<Template>,
+    pub templates: Vec<Option<Template>>,
 }
 
 /// What making changes: the visible variables, and how many new variables were made.

@@ -1,6 +1,6 @@
 //! The Core of constructors (Formal Semantics, section 4.7).
 ghost use Rattle.std.specs.Prelude.{◌≡◌, IfOk, [], ◌∷◌, None, false};
-ghost use Rattle.doc_table.specs.Tree.{AttributeNode, CommentNode, InstructionNode, text_in};
+ghost use Rattle.doc_table.specs.Tree.{CommentNode, InstructionNode, text_in};
 ghost use Rattle.core_meaning.specs.Erasure.{Texts, core_of};
 ghost use Rattle.core_meaning.specs.Erasure as erased;
 ghost use Rattle.core_meaning.specs.PlainCore as c;

@@ -5,13 +5,14 @@ ghost use Rattle.core_scope.specs.Leaves.{query_resolved};
 ghost use Rattle.core_normal.specs.Counting as size;
 ghost use Rattle.core_normal.specs.Measuring as spec;
 
+use crate::bodies::Tree;
+use crate::fun_sizes::{by_rounds, settled};
+use crate::order::Declaration;
 use crate::sized::{FunSize, sized};
-use crate::sizes::{Round, Size, bare, bind, filled, over};
+use crate::sizes::{Round, Size, bare, bind, filled};
 use std::alloc::Global;
-use xq_ast::leaf::SeqType;
-use xq_ast::node::{AsResolved, Node};
-use xq_ast::query::{Declaration, Param, ResolvedQuery};
-use xq_base::{TextId, Want};
+use xq_ast::query::ResolvedQuery;
+use xq_base::Want;
 
 /// The most nodes of a Core.
 const MAX_NODES: u64 = 65_536;
@@ -26,81 +27,8 @@ pub enum CoreSize {
     TooLarge { nodes: u64, levels: u64 },
 }
 
-/// Which parameters have a type.
-fn typed(alloc: Global, params: &[Param<u32, SeqType>]) -> Result<Vec<bool>, Want>
-    ensures { IfOk result (λ v. v.items ≡ spec.typed params.now) }
-{
-    let mut typed = Vec::new(alloc);
-    for param in params {
-        typed.push(param.ty.is_some())?;
-    }
-    Ok(typed)
-}
-
-/// The size of a function's body, converted where it has a type.
-fn body_size(body: &Node<AsResolved>, has_result: bool, table: &[FunSize]) -> Size
-    ensures { result ≡ spec.converted has_result (size.size_of table.now body.now) }
-{
-    let size = sized(body, table);
-    if has_result { over(size) } else { size }
-}
-
-/// The sizes of the declared functions, where calls inside them have these sizes.
-fn round(
-    alloc: Global,
-    declarations: &[Declaration<TextId, u32, SeqType, Node<AsResolved>>],
-    table: &[FunSize],
-) -> Result<Vec<FunSize>, Want>
-    ensures { IfOk result (λ next. spec.IsNext table.now declarations.now next.items) }
-{
-    let mut next = Vec::new(alloc);
-    for declaration in declarations {
-        match declaration {
-            Declaration::Var(_, _, _, _) => {}
-            Declaration::Fun(_, _, params, result, body) => {
-                let typed = typed(alloc, params.as_slice())?;
-                let body = body_size(body.get(), result.is_some(), table);
-                next.push(FunSize { typed, body })?;
-            }
-        }
-    }
-    Ok(next)
-}
-
-/// How many functions are declared.
-fn how_many(declarations: &[Declaration<TextId, u32, SeqType, Node<AsResolved>>]) -> usize
-    ensures { result ≡ spec.how_many declarations.now }
-{
-    let mut found = 0;
-    for declaration in declarations {
-        match declaration {
-            Declaration::Var(_, _, _, _) => {}
-            Declaration::Fun(_, _, _, _, _) => found += 1,
-        }
-    }
-    found
-}
-
-/// The sizes of the declared functions, with calls inside them as deep as there are functions.
-#[tactic(auto, using(crate::proofs::Tables::none_known))]
-fn table(
-    alloc: Global,
-    declarations: &[Declaration<TextId, u32, SeqType, Node<AsResolved>>],
-) -> Result<Vec<FunSize>, Want>
-    ensures { IfOk result (λ table. (t : Texts) → spec.IsTable t declarations.now table.items) }
-{
-    let mut table = Vec::new(alloc);
-    for _turn in 0..how_many(declarations) {
-        table = round(alloc, declarations, table.as_slice())?;
-    }
-    Ok(table)
-}
-
 /// The variables of the prolog, which stand round the main expression.
-fn prolog(
-    declarations: &[Declaration<TextId, u32, SeqType, Node<AsResolved>>],
-    table: &[FunSize],
-) -> Round
+fn prolog(declarations: &[Declaration], table: &[FunSize]) -> Round
     ensures { result ≡ spec.prolog table.now size.bare declarations.now }
 {
     let mut found = bare();
@@ -129,15 +57,29 @@ fn within(size: Size) -> CoreSize
     }
 }
 
-/// Whether the Core of a query is within 65,536 nodes and 4,096 levels, found without the Core.
+/// The size of the Core of a query, where calls have the sizes of the table.
+fn whole(declarations: &[Declaration], main: &Tree, table: &[FunSize]) -> Size
+    ensures { result ≡ spec.whole table.now declarations.now main.now }
+{
+    let size = sized(main, table);
+    filled(prolog(declarations, table), size)
+}
+
+/// Whether the Core of a query is within 65,536 nodes and 4,096 levels, found without the Core. The size of each function
+/// is found once; only where functions call themselves, which no query does whose names are resolved, it takes rounds.
 ///
 /// Errors: `Want`, where memory is wanting.
 pub fn measure(alloc: Global, query: &ResolvedQuery) -> Result<CoreSize, Want>
     ensures { IfOk result (λ m. (t : Texts) → spec.Measures (query_resolved t query.now) m) }
 {
     let declarations = query.prolog.declarations.as_slice();
-    let table = table(alloc, declarations)?;
-    let main = sized(query.body.get(), table.as_slice());
-    let round = prolog(declarations, table.as_slice());
-    Ok(within(filled(round, main)))
+    let main = query.body.get();
+    let table = settled(alloc, declarations, main)?;
+    let size = whole(declarations, main, table.as_slice());
+    if size.is_known {
+        return Ok(within(size));
+    }
+    let rounds = by_rounds(alloc, declarations)?;
+    let found = whole(declarations, main, rounds.as_slice());
+    Ok(within(found))
 }

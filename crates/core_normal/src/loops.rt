@@ -1,6 +1,6 @@
 //! The Core of loops and bindings (Formal Semantics, sections 4.8 and 4.11).
 ghost use Rattle.std.specs.Prelude.{◌≡◌, IfOk, OnOk};
-ghost use Rattle.core_meaning.specs.Erasure.{Texts, core_of};
+ghost use Rattle.core_meaning.specs.Erasure.{core_of};
 ghost use Rattle.core_scope.specs.Leaves.{syn_resolved};
 ghost use Rattle.core_scope.specs.Syn as s;
 ghost use Rattle.core_normal.specs.Around.{Env};

@@ -1,6 +1,5 @@
 //! Nodes of the Core, one function for each form. The clauses hold for whatever texts the numbers stand for.
 ghost use Rattle.std.specs.Prelude.{◌≡◌, IfOk, map};
-ghost use Rattle.xq_base.specs.Atoms.{BoolAtom, IntAtom};
 ghost use Rattle.doc_table.specs.Tree.{text_in};
 ghost use Rattle.core_meaning.specs.Erasure.{Texts, atom_in, binds_of, core_of, cores_of, keys_of, node_kind, plain_bind, plain_key, sequence_test, test_in};
 ghost use Rattle.core_meaning.specs.PlainCore as c;

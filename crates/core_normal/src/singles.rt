@@ -4,7 +4,7 @@ ghost use Rattle.core_meaning.specs.Erasure.{Texts, core_of};
 ghost use Rattle.core_scope.specs.Erasure.{with_signs};
 ghost use Rattle.core_scope.specs.Leaves.{sequence_of, syn_resolved};
 ghost use Rattle.core_scope.specs.Syn as s;
-ghost use Rattle.core_normal.specs.Making.{Makes_, Norms, normed};
+ghost use Rattle.core_normal.specs.Making.{Norms};
 ghost use Rattle.core_normal.specs.Forming.{signed_all};
 
 use crate::bodies::{State, Tree};

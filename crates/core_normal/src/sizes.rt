@@ -43,6 +43,17 @@ pub fn nothing() -> Size
     of(0, 0)
 }
 
+/// A part of which nothing is known yet.
+pub fn unknown() -> Size
+    ensures { result ≡ spec.unknown }
+{
+    Size {
+        nodes: 0,
+        levels: 0,
+        is_known: false,
+    }
+}
+
 pub fn leaf() -> Size
     ensures { result ≡ spec.leaf }
 {

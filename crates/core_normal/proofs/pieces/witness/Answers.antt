@@ -1,4 +1,4 @@
-use Rattle.std.proofs.Common.{◌∙◌, sym, ap}
+use Rattle.std.proofs.Common.{sym, ap}
 use Rattle.core_meaning.specs.Erasure.{core_of}
 use Rattle.core_normal.specs.Pieces.{witness}
 use Rattle.core_normal.proofs.pieces.witness.Goals as goal

@@ -1,0 +1,4 @@
+use Rattle.core_normal.proofs.copies.Copier.seq.Goals as goal
+
+pub returns : goal.returns
+returns g c = λ t. simp (c.in_ok-copy.ensures, c.in_ok-first.ensures, c.in_ok-second.ensures)
