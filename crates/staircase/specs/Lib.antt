@@ -9,7 +9,6 @@ pub mod Near
 pub mod Parts
 pub mod Passes
 pub mod References
-pub mod Samples
 pub mod Seen
 pub mod Tasks
 pub mod Tests

@@ -20,12 +20,8 @@ mod laws;
 mod links;
 mod near;
 mod near_reads;
-#[cfg(test)]
-mod near_tests;
 mod own;
 mod part;
-#[cfg(test)]
-mod plain;
 mod read;
 mod reads;
 mod seen;
@@ -33,10 +29,6 @@ mod step;
 mod task;
 mod tasks;
 mod test;
-#[cfg(test)]
-mod tests;
-#[cfg(test)]
-mod worked;
 
 pub use kinds::{Ctx, Tally};
 pub use laws::hits_are_reached;

@@ -35,32 +35,3 @@ impl Debug for HashKeys {
         f.debug_struct("HashKeys").finish_non_exhaustive()
     }
 }
-
-#[cfg(test)]
-mod tests {
-    use super::*;
-    use std::hash::{BuildHasherDefault, FoldHasher};
-    use std::test::Fail;
-
-    /// Texts of which all have this hash where its seed is the known one of `FoldHasher`: the first 16
-    /// bytes bring the hash to the state that the next eight spell, and so make any end count for
-    /// nothing.
-    const SAME: u64 = 0x1b47_d0c2_972b_b490;
-
-    #[test]
-    fn texts_with_one_hash_under_a_known_seed_have_others(rt: HostRuntime) -> Result<(), Fail> {
-        let alloc = rt.alloc();
-        let known = BuildHasherDefault::<FoldHasher>::new();
-        let keyed = HashKeys::new(1, 2);
-        let mut hashes = Vec::new(alloc);
-        for number in 10_000_000..10_000_256 {
-            let text = format!(in alloc; "textwith00138165loRQQlCV{}", number)?;
-            assert_eq!(rt; known.hash_one(text.as_str()), SAME);
-            hashes.push(keyed.hash_one(text.as_str()))?;
-        }
-        hashes.sort_unstable();
-        hashes.dedup();
-        assert_eq!(rt; hashes.len(), 256);
-        Ok(())
-    }
-}

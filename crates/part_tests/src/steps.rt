@@ -1,58 +1,15 @@
 //! Steps over two small documents, with what they append, read and count.
-ghost use Rattle.std.specs.Prelude.{◌≡◌, IfOk};
 ghost use Rattle.staircase.specs.Hits.{Ascending};
 ghost use Rattle.staircase.specs.Joins.{AreNodes};
-ghost use Rattle.staircase.specs.Samples.{mixed, nested};
 
-use super::*;
-use doc_table::{Fragment, FragmentBuilder, Kind, NoteList, Reads};
+use crate::samples::{mixed, nested};
+use crate::taken::{compare_notes, ctx, take_step};
+use doc_table::{Fragment, NoteList, Reads};
+use staircase::{Ctx, Tally};
 use std::alloc::Global;
 use std::process::Abort;
-use xq_base::{Axis, FragKey, NodeTest, TextId, Want};
-
-pub(crate) fn nested(alloc: Global) -> Result<Fragment, Want>
-    ensures { IfOk result (λ tree. tree ≡ nested) }
-{
-    let mut tree = FragmentBuilder::new(alloc);
-    tree.open(Kind::Document, None)?;
-    tree.open(Kind::Element, Some(TextId(1)))?;
-    tree.open(Kind::Element, Some(TextId(2)))?;
-    tree.open(Kind::Element, Some(TextId(2)))?;
-    tree.open(Kind::Element, Some(TextId(3)))?;
-    tree.close();
-    tree.close();
-    tree.close();
-    tree.close();
-    tree.close();
-    Ok(tree.finish())
-}
-
-pub(crate) fn mixed(alloc: Global) -> Result<Fragment, Want>
-    ensures { IfOk result (λ tree. tree ≡ mixed) }
-{
-    let mut tree = FragmentBuilder::new(alloc);
-    tree.open(Kind::Document, None)?;
-    tree.open(Kind::Element, Some(TextId(1)))?;
-    tree.attribute(TextId(2), TextId(3))?;
-    tree.open(Kind::Element, Some(TextId(4)))?;
-    tree.text(TextId(5))?;
-    tree.close();
-    tree.open(Kind::Element, Some(TextId(6)))?;
-    tree.close();
-    tree.text(TextId(7))?;
-    tree.open(Kind::Element, Some(TextId(4)))?;
-    tree.text(TextId(8))?;
-    tree.close();
-    tree.close();
-    tree.close();
-    Ok(tree.finish())
-}
-
-pub(crate) fn ctx(iter: u64, pre: u32, attr: u32) -> Ctx
-    ensures { result ≡ record { iter = iter; pre = pre; attr = attr } }
-{
-    Ctx { iter, pre, attr }
-}
+use std::test::Fail;
+use xq_base::{Axis, NodeTest, TextId};
 
 /// Makes a step, and compares what it appends, reads and counts.
 fn compare(
@@ -71,28 +28,10 @@ fn compare(
 {
     let mut reads = Reads::new(NoteList::new(alloc));
     let mut out = Vec::new(alloc);
-    let joined = join(
-        alloc,
-        tree,
-        FragKey::Doc(0),
-        7,
-        axis,
-        test,
-        context,
-        &mut out,
-        &mut reads,
-    );
-    assert_eq!(rt; joined.ok(), Some(tally), "{axis:?}");
+    let taken = take_step(alloc, tree, axis, test, context, &mut out, &mut reads);
+    assert_eq!(rt; taken.ok(), Some(tally), "{axis:?}");
     assert_eq!(rt; out.as_slice(), hits, "{axis:?}");
-    let notes = reads.ledger().notes();
-    assert_eq!(rt; notes.len(), rows.len(), "{axis:?}");
-    for (note, row) in notes.iter().zip(rows) {
-        assert_eq!(rt;
-            (note.site, note.frag, note.pre),
-            (7, FragKey::Doc(0), *row),
-            "{axis:?}"
-        );
-    }
+    compare_notes(rt, axis, reads.ledger().notes(), rows);
 }
 
 fn tally(context: u64, found: u64, skipped: u64, read: u64) -> Tally {
@@ -105,11 +44,9 @@ fn tally(context: u64, found: u64, skipped: u64, read: u64) -> Tally {
 }
 
 #[test]
-fn nested_contexts_give_each_node_once(rt: HostRuntime) {
+fn nested_contexts_give_each_node_once(rt: HostRuntime) -> Result<(), Fail> {
     let alloc = rt.alloc();
-    let made = nested(alloc);
-    assert!(rt; made.is_ok());
-    let Ok(tree) = made else { return };
+    let tree = nested(alloc)?;
     let context = [ctx(1, 2, 0), ctx(1, 3, 0)];
     let hits = [ctx(1, 3, 0), ctx(1, 4, 0)];
     compare(
@@ -134,6 +71,14 @@ fn nested_contexts_give_each_node_once(rt: HostRuntime) {
         &[2, 3, 4],
         tally(2, 2, 0, 3),
     );
+    Ok(())
+}
+
+#[test]
+fn nothing_follows_nested_contexts(rt: HostRuntime) -> Result<(), Fail> {
+    let alloc = rt.alloc();
+    let tree = nested(alloc)?;
+    let context = [ctx(1, 2, 0), ctx(1, 3, 0)];
     compare(
         &rt,
         alloc,
@@ -167,14 +112,13 @@ fn nested_contexts_give_each_node_once(rt: HostRuntime) {
         &[],
         tally(0, 0, 0, 0),
     );
+    Ok(())
 }
 
 #[test]
-fn steps_go_over_attributes_and_texts(rt: HostRuntime) {
+fn steps_go_to_children_and_attributes(rt: HostRuntime) -> Result<(), Fail> {
     let alloc = rt.alloc();
-    let made = mixed(alloc);
-    assert!(rt; made.is_ok());
-    let Ok(tree) = made else { return };
+    let tree = mixed(alloc)?;
     let element = [ctx(1, 1, 0)];
     let attribute = [ctx(1, 1, 1)];
     compare(
@@ -199,6 +143,14 @@ fn steps_go_over_attributes_and_texts(rt: HostRuntime) {
         &[1],
         tally(1, 0, 0, 1),
     );
+    Ok(())
+}
+
+#[test]
+fn steps_start_at_attributes(rt: HostRuntime) -> Result<(), Fail> {
+    let alloc = rt.alloc();
+    let tree = mixed(alloc)?;
+    let attribute = [ctx(1, 1, 1)];
     compare(
         &rt,
         alloc,
@@ -221,7 +173,6 @@ fn steps_go_over_attributes_and_texts(rt: HostRuntime) {
         &[],
         tally(0, 0, 0, 0),
     );
-    let after = [ctx(1, 3, 0), ctx(1, 5, 0), ctx(1, 7, 0)];
     compare(
         &rt,
         alloc,
@@ -229,11 +180,20 @@ fn steps_go_over_attributes_and_texts(rt: HostRuntime) {
         Axis::Following,
         NodeTest::Text,
         &attribute,
-        &after,
+        &[ctx(1, 3, 0), ctx(1, 5, 0), ctx(1, 7, 0)],
         &[1, 2, 3, 4, 5, 6, 7],
         tally(1, 6, 0, 7),
     );
+    Ok(())
+}
+
+#[test]
+fn steps_go_to_texts_before_and_to_elements_below(rt: HostRuntime) -> Result<(), Fail> {
+    let alloc = rt.alloc();
+    let tree = mixed(alloc)?;
     let last = [ctx(1, 6, 0)];
+    let twice = [ctx(1, 1, 0), ctx(2, 1, 0), ctx(1, 6, 0)];
+    let named = [ctx(1, 2, 0), ctx(2, 2, 0), ctx(1, 6, 0), ctx(2, 6, 0)];
     compare(
         &rt,
         alloc,
@@ -245,8 +205,6 @@ fn steps_go_over_attributes_and_texts(rt: HostRuntime) {
         &[0, 1, 2, 3, 4, 5, 6],
         tally(1, 4, 2, 7),
     );
-    let twice = [ctx(1, 1, 0), ctx(2, 1, 0), ctx(1, 6, 0)];
-    let named = [ctx(1, 2, 0), ctx(2, 2, 0), ctx(1, 6, 0), ctx(2, 6, 0)];
     compare(
         &rt,
         alloc,
@@ -258,14 +216,13 @@ fn steps_go_over_attributes_and_texts(rt: HostRuntime) {
         &[1, 2, 3, 4, 5, 6, 7],
         tally(2, 7, 0, 7),
     );
+    Ok(())
 }
 
 #[test]
-fn steps_go_to_parents_and_ancestors(rt: HostRuntime) {
+fn steps_go_to_parents(rt: HostRuntime) -> Result<(), Fail> {
     let alloc = rt.alloc();
-    let made = mixed(alloc);
-    assert!(rt; made.is_ok());
-    let Ok(tree) = made else { return };
+    let tree = mixed(alloc)?;
     let texts = [ctx(1, 3, 0), ctx(2, 5, 0), ctx(1, 7, 0)];
     let attribute = [ctx(1, 1, 1)];
     compare(
@@ -279,6 +236,25 @@ fn steps_go_to_parents_and_ancestors(rt: HostRuntime) {
         &[0, 1, 2, 3, 4, 5, 6, 7],
         tally(3, 3, 2, 8),
     );
+    compare(
+        &rt,
+        alloc,
+        &tree,
+        Axis::Parent,
+        NodeTest::Any,
+        &attribute,
+        &[ctx(1, 1, 0)],
+        &[0, 1],
+        tally(1, 1, 1, 2),
+    );
+    Ok(())
+}
+
+#[test]
+fn steps_go_to_ancestors(rt: HostRuntime) -> Result<(), Fail> {
+    let alloc = rt.alloc();
+    let tree = mixed(alloc)?;
+    let texts = [ctx(1, 3, 0), ctx(2, 5, 0), ctx(1, 7, 0)];
     compare(
         &rt,
         alloc,
@@ -308,17 +284,14 @@ fn steps_go_to_parents_and_ancestors(rt: HostRuntime) {
         &[0, 1, 2, 3, 4, 5, 6, 7],
         tally(3, 7, 1, 8),
     );
-    compare(
-        &rt,
-        alloc,
-        &tree,
-        Axis::Parent,
-        NodeTest::Any,
-        &attribute,
-        &[ctx(1, 1, 0)],
-        &[0, 1],
-        tally(1, 1, 1, 2),
-    );
+    Ok(())
+}
+
+#[test]
+fn an_attribute_is_below_its_element(rt: HostRuntime) -> Result<(), Fail> {
+    let alloc = rt.alloc();
+    let tree = mixed(alloc)?;
+    let attribute = [ctx(1, 1, 1)];
     compare(
         &rt,
         alloc,
@@ -330,14 +303,13 @@ fn steps_go_to_parents_and_ancestors(rt: HostRuntime) {
         &[0, 1],
         tally(1, 2, 0, 2),
     );
+    Ok(())
 }
 
 #[test]
-fn steps_go_to_siblings(rt: HostRuntime) {
+fn steps_go_to_siblings(rt: HostRuntime) -> Result<(), Fail> {
     let alloc = rt.alloc();
-    let made = mixed(alloc);
-    assert!(rt; made.is_ok());
-    let Ok(tree) = made else { return };
+    let tree = mixed(alloc)?;
     let children = [ctx(1, 4, 0), ctx(2, 5, 0), ctx(1, 6, 0)];
     compare(
         &rt,
@@ -367,16 +339,24 @@ fn steps_go_to_siblings(rt: HostRuntime) {
         &[0, 1, 2, 4, 5, 6],
         tally(3, 2, 3, 6),
     );
-    let nested = [ctx(1, 2, 0), ctx(1, 3, 0)];
+    Ok(())
+}
+
+#[test]
+fn siblings_of_nodes_in_others_come_once(rt: HostRuntime) -> Result<(), Fail> {
+    let alloc = rt.alloc();
+    let tree = mixed(alloc)?;
+    let context = [ctx(1, 2, 0), ctx(1, 3, 0)];
     compare(
         &rt,
         alloc,
         &tree,
         Axis::FollowingSibling,
         NodeTest::Star,
-        &nested,
+        &context,
         &[ctx(1, 4, 0), ctx(1, 6, 0)],
         &[0, 1, 2, 3, 4, 5, 6],
         tally(2, 3, 2, 7),
     );
+    Ok(())
 }

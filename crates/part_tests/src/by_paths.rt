@@ -1,16 +1,16 @@
 //! Steps over two small documents, compared with a plain program that goes by paths.
-ghost use Rattle.std.specs.Prelude.{◌≡◌};
 ghost use Rattle.staircase.specs.Hits.{Ascending};
 ghost use Rattle.staircase.specs.Joins.{AreNodes};
 
-use crate::kinds::Ctx;
 use crate::plain::{Plain, goes_to};
-use crate::step::join;
-use crate::tests::{ctx, mixed, nested};
+use crate::samples::{mixed, nested};
+use crate::taken::{ctx, take_step};
 use doc_table::{Fragment, Kind, NoteList, Reads};
+use staircase::Ctx;
 use std::alloc::Global;
 use std::process::Abort;
-use xq_base::{Axis, FragKey, NodeTest, TextId, Want};
+use std::test::Fail;
+use xq_base::{Axis, NodeTest, TextId, Want};
 
 fn row(pre: u32, steps: [u32; 4], depth: u32, kind: Kind, name: Option<TextId>) -> Plain {
     Plain {
@@ -87,18 +87,8 @@ fn compare_step(
 {
     let mut reads = Reads::new(NoteList::new(alloc));
     let mut out = Vec::new(alloc);
-    let joined = join(
-        alloc,
-        tree,
-        FragKey::Doc(0),
-        7,
-        axis,
-        test,
-        context,
-        &mut out,
-        &mut reads,
-    );
-    assert!(rt; joined.is_ok(), "{axis:?}");
+    let taken = take_step(alloc, tree, axis, test, context, &mut out, &mut reads);
+    assert!(rt; taken.is_ok(), "{axis:?}");
     let plain = plain_step(alloc, nodes, axis, test, context);
     assert!(rt; plain.is_ok());
     let Ok(hits) = plain else { return };
@@ -156,11 +146,9 @@ fn compare_all(rt: &impl Abort, alloc: Global, tree: &Fragment, nodes: &[Plain],
 }
 
 #[test]
-fn nested_steps_go_by_paths(rt: HostRuntime) {
+fn nested_steps_go_by_paths(rt: HostRuntime) -> Result<(), Fail> {
     let alloc = rt.alloc();
-    let made = nested(alloc);
-    assert!(rt; made.is_ok());
-    let Ok(tree) = made else { return };
+    let tree = nested(alloc)?;
     let nodes = [
         row(0, [0, 0, 0, 0], 0, Kind::Document, None),
         element(1, [1, 0, 0, 0], 1, 1),
@@ -180,14 +168,13 @@ fn nested_steps_go_by_paths(rt: HostRuntime) {
         ctx(3, 4, 0),
     ];
     compare_all(&rt, alloc, &tree, &nodes, &many);
+    Ok(())
 }
 
 #[test]
-fn mixed_steps_go_by_paths(rt: HostRuntime) {
+fn mixed_steps_go_by_paths(rt: HostRuntime) -> Result<(), Fail> {
     let alloc = rt.alloc();
-    let made = mixed(alloc);
-    assert!(rt; made.is_ok());
-    let Ok(tree) = made else { return };
+    let tree = mixed(alloc)?;
     let nodes = [
         row(0, [0, 0, 0, 0], 0, Kind::Document, None),
         element(1, [1, 0, 0, 0], 1, 1),
@@ -212,4 +199,5 @@ fn mixed_steps_go_by_paths(rt: HostRuntime) {
         ctx(2, 7, 0),
     ];
     compare_all(&rt, alloc, &tree, &nodes, &many);
+    Ok(())
 }

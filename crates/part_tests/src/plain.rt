@@ -1,6 +1,6 @@
 //! A plain program for steps, by the paths of nodes: XPath 2.0, sections 3.2.1.1 and 3.2.1.2.
-use crate::kinds::Ctx;
 use doc_table::Kind;
+use staircase::Ctx;
 use xq_base::{Axis, NodeTest, TextId};
 
 /// A node, as a test writes it down: its row and attribute, the numbers of the children on the way to

@@ -2,7 +2,9 @@
 //! come at once, and the real file and stream.
 ghost use Rattle.std.specs.Prelude.{IsTrue};
 
-use super::*;
+use io_edge::{
+    CalmShelf, CalmSink, FileShelf, MemShelf, MemSink, ReadErr, StreamSink, read_whole, write_whole,
+};
 use std::alloc::{AllocError, Global};
 use std::fs;
 use std::test::Fail;
