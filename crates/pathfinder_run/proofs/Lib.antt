@@ -1,4 +1,3 @@
-pub mod Forms
 pub mod Loading
 pub mod OneStatus
 pub mod Pieces
@@ -6,4 +5,3 @@ pub mod Repeats
 pub mod Replying
 pub mod Texts
 pub mod Values
-pub mod Worked

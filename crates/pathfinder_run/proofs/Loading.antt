@@ -8,7 +8,7 @@ use Rattle.std.proofs.lemmas.List.{take_more, length-take-le, map-append, get_or
 use Rattle.xq_base.specs.declared.item.TextId.{TextId}
 use Rattle.xq_base.specs.Distinct.{Holds, AllDiffer}
 use Rattle.io_edge.specs.Shelves.{Files}
-use Rattle.doc_table.specs.Tree.{Tree, Branch, OfDocument, root_of, label_with, text_in, with_texts}
+use Rattle.doc_table.specs.Tree.{Tree, text_in, with_texts}
 use Rattle.doc_table.specs.Given.{tree_given, trees_given}
 use Rattle.doc_table.specs.Stores.{Holdings, AreGiven, has_doc, with_doc}
 use Rattle.doc_table.proofs.GivenLaws.{trees_given_more, trees_given_doc, tree_given_more}

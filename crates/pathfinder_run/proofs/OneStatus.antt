@@ -1,7 +1,6 @@
 -- Told files mean at most one status.
-use Rattle.std.proofs.Common.{◌≡◌, ◌<◌, ◌≤◌, ◌+◌, ℕ, zero, suc, List, [], ◌∷◌, length, take, map, get_or, inl, inr, Option, Some, None, refl, sym, ap, ◌∙◌, subst, arith}
+use Rattle.std.proofs.Common.{◌≡◌, ◌<◌, ◌≤◌, ◌+◌, ℕ, zero, suc, List, [], ◌∷◌, length, take, get_or, inl, inr, Option, Some, None, refl, sym, ap, ◌∙◌, subst, arith}
 use Rattle.std.proofs.lemmas.Bool.{cases_lt}
-use Rattle.xq_base.specs.Distinct.{AllDiffer}
 use Rattle.xq_base.specs.declared.code.Code.{Code}
 use Rattle.io_edge.specs.Shelves.{Files}
 use Rattle.doc_table.specs.Tree.{Tree}

@@ -23,7 +23,7 @@ use Rattle.pathfinder_run.specs.Words.{first_place}
 
 -- the most bytes of a query
 abbrev pub query_limit : ℕ
-query_limit = 4096
+query_limit = 1048576
 
 -- these bytes are a name's file, where the shelf tells its files; of another shelf nothing is known
 abbrev pub IsFile : Option Files → List ℕ → List ℕ → Type 0

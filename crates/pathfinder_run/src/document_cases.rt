@@ -121,11 +121,11 @@ const QUERIES: [(&[u8], &[u8], &[u8], &[u8], u8); 31] = [
     (b"doc(\"\xc3\xa4\")", A, b"", b"FODC0002 at 0", 2),
     (b"doc(\"a\"\"b\")", A, b"", b"FODC0002 at 0", 2),
     // another argument, another function, a longer name of it
-    (b"doc(1)", A, b"", b"PFRC0004", 1),
-    (b"doc()", A, b"", b"PFRC0004", 1),
-    (b"doc(\"a.xml\", 1)", A, b"", b"PFRC0004", 1),
-    (b"dog(\"a.xml\")", A, b"", b"PFRC0004", 1),
-    (b"docs(\"a.xml\")", A, b"", b"PFRC0004", 1),
+    (b"doc(1)", A, b"", b"XPTY0004 at 0", 1),
+    (b"doc()", A, b"", b"XPST0017 at 0", 1),
+    (b"doc(\"a.xml\", 1)", A, b"", b"XPST0017 at 0", 1),
+    (b"dog(\"a.xml\")", A, b"", b"XPST0017 at 0", 1),
+    (b"docs(\"a.xml\")", A, b"", b"XPST0017 at 0", 1),
     (b"doc(\"a.xml\")/a", A, b"", b"PFRC0004", 1),
     // an ampersand begins a reference
     (b"doc(\"a&b\")", A, b"", b"XPST0003", 1),

@@ -10,6 +10,8 @@ mod inputs;
 mod production_cases;
 #[cfg(test)]
 mod query_cases;
+#[cfg(test)]
+mod scope_cases;
 mod status;
 mod top;
 mod words;

@@ -17,15 +17,15 @@ use crate::diagnosis::say;
 use crate::inputs::{load_documents, read_file};
 use crate::status::Status;
 use crate::words::split_words;
-use core_meaning::Core;
 use doc_table::Store;
 use io_edge::{Shelf, Sink, write_whole};
 use query_engine::{AnswerFault, CompileFault, answer, compile};
 use std::alloc::Global;
 use xq_base::{HashKeys, Pool};
+use xq_types::Typed;
 
 /// The most bytes of a query file.
-const QUERY_LIMIT: usize = 4096;
+const QUERY_LIMIT: usize = 1_048_576;
 
 /// The place of the query's word.
 const QUERY_WORD: usize = 1;
@@ -34,25 +34,25 @@ const QUERY_WORD: usize = 1;
 const MOST_DOCUMENTS: usize = 16;
 
 /// A query's text, checked by the static rules.
-fn compile_text(alloc: Global, text: &[u8], pool: &mut Pool) -> Result<Core, Status>
+fn compile_text(alloc: Global, text: &[u8], pool: &mut Pool) -> Result<Typed, Status>
     ensures later { Grows pool.old pool.new }
     ensures compiled { TextCompiled text.now pool.new result }
 {
     match compile(alloc, text, pool) {
-        Ok(core) => Ok(core),
+        Ok(typed) => Ok(typed),
         Err(CompileFault::NoMemory) => Err(Status::NoMemory),
         Err(CompileFault::Refused { code, offset }) => Err(Status::Static { code, offset }),
     }
 }
 
 /// The bytes of a query's value over the documents of a store, or why there are none.
-fn answer_over(alloc: Global, core: &Core, store: &Store, pool: &Pool) -> Result<Vec<u8>, Status>
-    requires evaluated { CanEvaluate pool.now core.now }
+fn answer_over(alloc: Global, query: &Typed, store: &Store, pool: &Pool) -> Result<Vec<u8>, Status>
+    requires evaluated { CanEvaluate pool.now query.now }
     requires trees { trees_given (length pool.now) store.now ≡ true }
     requires names { AreGiven pool.now store.now.docs }
-    ensures { (text : List ℕ) → IsCompiled text pool.now core.now → ValueGiven (documents_in pool.now store.now) text result }
+    ensures { (text : List ℕ) → IsCompiled text pool.now query.now → ValueGiven (documents_in pool.now store.now) text result }
 {
-    match answer(alloc, core, store, pool) {
+    match answer(alloc, query, store, pool) {
         Ok(bytes) => Ok(bytes),
         Err(AnswerFault::NoMemory) => Err(Status::NoMemory),
         Err(AnswerFault::Dynamic { code, offset }) => Err(Status::Dynamic { code, offset }),
@@ -80,13 +80,13 @@ fn reply<F: Shelf>(
         Err(status) => return Err(status),
     };
     let mut pool = Pool::new(alloc, keys);
-    let core = match compile_text(alloc, text.as_slice(), &mut pool) {
-        Ok(core) => core,
+    let typed = match compile_text(alloc, text.as_slice(), &mut pool) {
+        Ok(typed) => typed,
         Err(status) => return Err(status),
     };
     let mut store = Store::new(alloc);
     match load_documents(alloc, names, shelf, &mut pool, &mut store) {
-        Ok(()) => answer_over(alloc, &core, &store, &pool),
+        Ok(()) => answer_over(alloc, &typed, &store, &pool),
         Err(status) => Err(status),
     }
 }
@@ -154,7 +154,7 @@ fn status_of<F: Shelf, O: Sink>(
 /// taken exactly the serialisation of the query's value. Static: the static rules refuse it. Dynamic:
 /// this is its first failure. DocRefused: this document is the first that isn't read, and why.
 /// ReadFault and WriteFault: the shelf or `out` counted a fault in this call. TooLarge: the query's file
-/// has more than 4,096 bytes, a document's more than 67,108,864, or there are more than 16 documents.
+/// has more than 1,048,576 bytes, a document's more than 67,108,864, or there are more than 16 documents.
 /// Usage: exactly where the words aren't in form. NoMemory: want of memory. The query's file comes
 /// first, then its static rules, then the documents in their order. `out` has taken nothing but under
 /// Done and WriteFault, where it has taken a prefix of the answer; `diag` has taken the status's line, or

@@ -1,8 +1,6 @@
-pub mod AllThere
 pub mod Answered
-pub mod Answers
 pub mod Bools
-pub mod Chains
+pub mod Compiling
 pub mod Drops
 pub mod EvalLaws
 pub mod Falling
@@ -10,13 +8,8 @@ pub mod Few
 pub mod Firsts
 pub mod FormFails
 pub mod Later
-pub mod Literals
-pub mod Nodes
-pub mod Numerals
 pub mod OneMeaning
-pub mod Places
 pub mod PlainForms
 pub mod Ruling
 pub mod StaysGiven
 pub mod Turning
-pub mod Unfolds

@@ -1,9 +1,15 @@
 -- A text has at most one meaning.
-use Rattle.std.proofs.Common.{◌≡◌, ℕ, List, [], true, false, Option, Some, None, inl, inr, refl, sym, ap, ◌∙◌, subst, arith}
+use Rattle.std.proofs.Common.{◌≡◌, ℕ, List, true, false, Option, Some, None, inl, inr, refl, sym, ap, ◌∙◌, subst, arith}
 use Rattle.xq_base.specs.declared.code.Code.{Code}
-use Rattle.xq_base.specs.declared.code.Code.TheVariants as c
 use Rattle.doc_table.specs.NodeRules.{Docs}
 use Rattle.core_meaning.specs.PlainCore.{PlainCore}
+use Rattle.core_scope.specs.Leaves.{query_read}
+use Rattle.core_scope.specs.Refusals.{Scoped}
+use Rattle.core_scope.specs.Refusals as scope
+use Rattle.core_scope.specs.Syn.{Query, read, resolved}
+use Rattle.core_scope.proofs.OneScoping.{one_scoping}
+use Rattle.core_normal.specs.Limits.{Normal, Normalises}
+use Rattle.core_normal.specs.Limits as limits
 use Rattle.core_meaning.specs.ExprOf.{expr_of}
 use Rattle.core_meaning.specs.Expr.{Expr}
 use Rattle.core_meaning.specs.Failures.{Failure, first}
@@ -11,7 +17,7 @@ use Rattle.xq_ast.specs.Phrases.{Why, deep, left_out}
 use Rattle.xq_ast.specs.Query.{Reading, Reads, IsLeastCut, tree, cut, no_query}
 use Rattle.xq_parser.proofs.Query.{one_tree}
 use Rattle.xq_serial.specs.Ser.{ser, attribute_place}
-use Rattle.query_engine.specs.Answering.{Static, refused, accepted, static_of, IsStatic, Accepts, IsRefused, IsAccepted, IsAnswer, IsFailing, evaluation, attribute, Meaning, Refuses, Fails, Writes, Means}
+use Rattle.query_engine.specs.Answering.{Static, refused, accepted, of_normal, IsOfScoped, IsOfQuery, IsOfReading, IsStatic, Accepts, IsRefused, IsAccepted, IsAnswer, IsFailing, evaluation, attribute, Meaning, Refuses, Fails, Writes, Means}
 
 one_why : (text : List ℕ) (v w : Why) (place : ℕ) → IsLeastCut text v place → IsLeastCut text w place → v ≡ w
 one_why text deep deep place a b = refl
@@ -43,8 +49,27 @@ one_reading text no_query (cut w n) (inl f) b = absurd (both_ways b.0 f)
 one_reading text no_query (cut w n) (inr x) b = absurd (x.no_cut w n b.1.cut)
 one_reading text no_query no_query a b = refl
 
+one_normal : (q : Query resolved) (n m : Normal) → Normalises q n → Normalises q m → n ≡ m
+one_normal q (limits.core x) (limits.core y) a b = ap limits.core (a.1 ∙ sym b.1)
+one_normal q (limits.core x) (limits.too_large n m) a b = absurd (both_ways b.0 a.0)
+one_normal q (limits.too_large n m) (limits.core y) a b = absurd (both_ways a.0 b.0)
+one_normal q (limits.too_large n m) (limits.too_large k l) a b = ap (λ x. limits.too_large x m) (a.1 ∙ sym b.1) ∙ ap (limits.too_large k) (a.2 ∙ sym b.2)
+
+of_scoped : (x : Scoped) (s t : Static) → IsOfScoped x s → IsOfScoped x t → s ≡ t
+of_scoped (scope.refusal r) s t a b = a ∙ sym b
+of_scoped (scope.accepted q) s t a b = a.2 ∙ ap of_normal (one_normal q a.0 b.0 a.1 b.1) ∙ sym b.2
+
+of_query : (q : Query read) (s t : Static) → IsOfQuery q s → IsOfQuery q t → s ≡ t
+of_query q s t a b = of_scoped a.0 s t a.2 (subst (λ x. IsOfScoped x t) (one_scoping q b.0 a.0 b.1 a.1) b.2)
+
+of_reading : (r : Reading) (s t : Static) → IsOfReading r s → IsOfReading r t → s ≡ t
+of_reading no_query s t a b = a ∙ sym b
+of_reading (cut deep place) s t a b = a ∙ sym b
+of_reading (cut left_out place) s t a b = a ∙ sym b
+of_reading (tree q) s t a b = of_query (query_read q) s t a b
+
 one_static : (text : List ℕ) (s t : Static) → IsStatic text s → IsStatic text t → s ≡ t
-one_static text s t a b = sym a.is ∙ ap static_of (one_reading text a.reading b.reading a.read b.read) ∙ b.is
+one_static text s t a b = of_reading a.reading s t a.is (subst (λ x. IsOfReading x t) (one_reading text b.reading a.reading b.read a.read) b.is)
 
 one_core : (text : List ℕ) (e f : PlainCore) → IsAccepted text e → IsAccepted text f → e ≡ f
 one_core text e f a b = let x = one_static text (accepted e) (accepted f) a b in cc

@@ -14,18 +14,22 @@ use Rattle.core_meaning.specs.ExprOf.{expr_of}
 use Rattle.core_meaning.specs.Expr.{Expr}
 use Rattle.core_meaning.specs.Meaning.{no_variables, val}
 use Rattle.core_meaning.specs.Failures.{Failure, fails, first}
+use Rattle.core_scope.specs.Syn.{Query, read}
+use Rattle.core_scope.specs.Leaves.{query_read}
+use Rattle.core_scope.specs.Refusals.{Scoped, Scopes}
+use Rattle.core_scope.specs.Refusals as scope
+use Rattle.core_normal.specs.Limits.{Normal, Normalises}
+use Rattle.core_normal.specs.Limits as limits
+use Rattle.xq_types.specs.Typing.{no_types}
+use Rattle.xq_types.specs.Refusals.{type_refusal}
 use Rattle.xq_ast.specs.Phrases.{deep, left_out}
-use Rattle.xq_ast.specs.Query.{Reading, Reads, tree, cut, no_query}
+use Rattle.xq_ast.specs.Query.{IsQuery, Reading, Reads, tree, cut, no_query}
+use Rattle.xq_ast.specs.Trees as trees
 use Rattle.xq_serial.specs.Ser.{ser, attribute_place}
-use Rattle.query_engine.specs.declared.tree.Single.{Single}
 use Rattle.query_engine.specs.declared.engine.CompileFault.{CompileFault}
 use Rattle.query_engine.specs.declared.engine.CompileFault.TheVariants as compile
 use Rattle.query_engine.specs.declared.engine.AnswerFault.{AnswerFault}
 use Rattle.query_engine.specs.declared.engine.AnswerFault.TheVariants as answer
-use Rattle.query_engine.specs.declared.scope.Refusal.{Refusal}
-use Rattle.query_engine.specs.Parts.{evaluated_of}
-use Rattle.query_engine.specs.Scope.{refusals, least}
-use Rattle.query_engine.specs.Normal.{norm}
 use Rattle.query_engine.specs.Evaluated.{is_evaluated, CanEvaluate}
 
 -- what the static rules make of a query: a refusal with its code and place, or its Core
@@ -33,31 +37,42 @@ pub data Static : Type 0 where
   refused : Code → Option ℕ → Static
   accepted : PlainCore → Static
 
--- a Core that is evaluated (own rule)
+-- the refusal by types at the least site; then a form that isn't evaluated is refused (own rules)
+abbrev pub of_types : PlainCore → Option ℕ → Static
+of_types core (Some offset) = refused c.XPTY0004 (Some offset)
+of_types core None = if is_evaluated core then accepted core else refused c.PFRC0004 None
+
 abbrev pub of_core : PlainCore → Static
-of_core core = if is_evaluated core then accepted core else refused c.PFRC0004 None
+of_core core = of_types core (type_refusal no_types (expr_of core))
 
--- the refusal by names and literals with the least place
-abbrev pub of_scope : List Single → Option Refusal → Static
-of_scope es (Some r) = refused r.code (Some r.place)
-of_scope es None = of_core (norm es)
+-- a Core beyond the limits is refused (own rule)
+abbrev pub of_normal : Normal → Static
+of_normal (limits.too_large nodes levels) = refused c.PFRC0002 None
+of_normal (limits.core core) = of_core core
 
--- a form that isn't evaluated is refused directly after syntax (own rule)
-abbrev pub of_parts : Option (List Single) → Static
-of_parts None = refused c.PFRC0004 None
-of_parts (Some es) = of_scope es (least (refusals es))
+-- the first refusal by scope, or what is made of the Core
+abbrev pub IsOfScoped : Scoped → Static → Type 0
+IsOfScoped (scope.refusal r) static = static ≡ refused r.code (Some r.offset)
+IsOfScoped (scope.accepted query) static = (normal : Normal) × Normalises query normal × (static ≡ of_normal normal)
 
-abbrev pub static_of : Reading → Static
-static_of no_query = refused c.XPST0003 None
-static_of (cut deep place) = refused c.PFRC0003 None
-static_of (cut left_out place) = refused c.PFRC0004 None
-static_of (tree query) = of_parts (evaluated_of query)
+abbrev pub IsOfQuery : Query read → Static → Type 0
+IsOfQuery query static = (scoped : Scoped) × Scopes query scoped × IsOfScoped scoped static
+
+abbrev pub IsOfReading : Reading → Static → Type 0
+IsOfReading no_query static = static ≡ refused c.XPST0003 None
+IsOfReading (cut deep place) static = static ≡ refused c.PFRC0003 None
+IsOfReading (cut left_out place) static = static ≡ refused c.PFRC0004 None
+IsOfReading (tree query) static = IsOfQuery (query_read query) static
 
 -- by the reading of the text
 pub record IsStatic (text : List ℕ) (static : Static) : Type 0 where
   pub reading : Reading
   pub read : Reads text reading
-  pub is : static_of reading ≡ static
+  pub is : IsOfReading reading static
+
+-- some text is this query
+abbrev pub IsRead : trees.Query → Type 0
+IsRead query = (text : List ℕ) × IsQuery text query
 
 -- the static rules refuse the text with this code and place
 abbrev pub IsRefused : List ℕ → Code → Option ℕ → Type 0
@@ -98,21 +113,20 @@ Means docs text (Writes bytes) = (core : PlainCore) × IsAccepted text core × I
 abbrev pub IsCompiled : List ℕ → Texts → Core → Type 0
 IsCompiled text texts core = IsAccepted text (core_of texts core)
 
-abbrev pub CompileFails : List ℕ → CompileFault → Type 0
-CompileFails text compile.NoMemory = Unit {0}
-CompileFails text (compile.Refused code place) = IsRefused text code place
+-- a fault is what the static rules make of a query, if these are all that they make of it
+abbrev pub FailsBy : (Static → Type 0) → CompileFault → Type 0
+FailsBy makes compile.NoMemory = Unit {0}
+FailsBy makes (compile.Refused code place) = makes (refused code place)
 
 -- a call gives what the static rules make of a query, unless memory runs out; each pool that goes on after this one reads
 -- the Core so, and it can be evaluated with that pool
-abbrev pub GivesStatic : Static → Texts → Result Core CompileFault → Type 0
-GivesStatic static texts (Ok core) = (later : Texts) → Grows texts later → (static ≡ accepted (core_of later core)) × CanEvaluate later core
-GivesStatic static texts (Err compile.NoMemory) = Unit {0}
-GivesStatic static texts (Err (compile.Refused code place)) = static ≡ refused code place
+abbrev pub GivesBy : (Static → Type 0) → Texts → Result Core CompileFault → Type 0
+GivesBy makes texts (Ok core) = (later : Texts) → Grows texts later → makes (accepted (core_of later core)) × CanEvaluate later core
+GivesBy makes texts (Err fault) = FailsBy makes fault
 
 -- the same of a text
 abbrev pub Compiles : List ℕ → Texts → Result Core CompileFault → Type 0
-Compiles text texts (Ok core) = (later : Texts) → Grows texts later → IsCompiled text later core × CanEvaluate later core
-Compiles text texts (Err fault) = CompileFails text fault
+Compiles text = GivesBy (IsStatic text)
 
 abbrev pub AnswerFails : Docs → Expr → AnswerFault → Type 0
 AnswerFails docs e answer.NoMemory = Unit {0}

@@ -5,6 +5,7 @@ use Rattle.xq_base.specs.Atoms.{IntAtom, TextAtom}
 use Rattle.doc_table.specs.OtherTexts.{Grows}
 use Rattle.core_meaning.specs.declared.node.Core.{Core}
 use Rattle.core_meaning.specs.Erasure.{Texts, core_of}
+use Rattle.core_scope.specs.Leaves.{ResolvedQuery, query_resolved}
 use Rattle.core_meaning.specs.PlainCore.{PlainCore, PlainCores, Lit, Empty, Seq, Var, Let, For, Call, no_cores, one_core}
 
 abbrev pub is_text : PlainCore → Bool
@@ -43,6 +44,10 @@ is_evaluated core = has_forms true core || has_forms false core
 -- the pool gave the numbers of a Core's texts: no pool that goes on after it reads the Core otherwise
 abbrev pub IsFixed : Texts → Core → Type 0
 IsFixed texts core = (later : Texts) → Grows texts later → core_of later core ≡ core_of texts core
+
+-- the same of a query whose names are resolved
+abbrev pub IsFixedQuery : Texts → ResolvedQuery → Type 0
+IsFixedQuery texts query = (later : Texts) → Grows texts later → query_resolved later query ≡ query_resolved texts query
 
 -- what evaluation asks of a Core
 pub record CanEvaluate (texts : Texts) (core : Core) : Type 0 where

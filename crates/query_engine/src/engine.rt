@@ -1,13 +1,14 @@
 //! From a query's text to its Core, and from the Core to the answer's bytes.
-ghost use Rattle.std.specs.Prelude.{◌≡◌, ℕ, List, [], length, true, Option};
+ghost use Rattle.std.specs.Prelude.{◌≡◌, ℕ, List, [], length, slice_get, true, Option, Some};
 ghost use Rattle.core_meaning.specs.Erasure.{core_of};
 ghost use Rattle.core_meaning.specs.ExprOf.{expr_of};
-ghost use Rattle.xq_ast.specs.Query.{Reads, Reading, tree};
+ghost use Rattle.core_normal.specs.Outcomes.{IsScoped};
+ghost use Rattle.core_scope.specs.Leaves.{query_read, query_resolved};
+ghost use Rattle.core_scope.specs.Refusals.{accepted};
 ghost use Rattle.xq_parser.specs.Query.{Faults};
-ghost use Rattle.query_engine.specs.Evaluated.{CanEvaluate};
-ghost use Rattle.query_engine.specs.Scope.{refusals, least};
-ghost use Rattle.query_engine.specs.Normal.{norm};
-ghost use Rattle.query_engine.specs.Answering.{Accepts, IsRefused, CompileFails, Compiles, GivesStatic, of_core, of_scope, static_of, Answers, Meaning, Means};
+ghost use Rattle.xq_types.specs.TypeOf.{IsLawful};
+ghost use Rattle.query_engine.specs.Evaluated.{CanEvaluate, IsFixed, IsFixedQuery};
+ghost use Rattle.query_engine.specs.Answering.{Accepts, IsRefused, IsStatic, IsRead, FailsBy, GivesBy, Compiles, IsOfScoped, IsOfQuery, of_core, Answers, Meaning, Means};
 ghost use Rattle.doc_table.specs.Documents.{documents_in};
 ghost use Rattle.doc_table.specs.OtherTexts.{Grows};
 ghost use Rattle.xq_base.specs.declared.code.Code.{Code};
@@ -17,30 +18,29 @@ ghost use Rattle.doc_table.specs.Stores.{AreGiven};
 
 use crate::evaluate::{EvalFault, Evaluator};
 use crate::forms::{has_forms, is_evaluated};
-use crate::normal::normalise;
-use crate::parts::evaluated_of;
-use crate::scope::first_refusal;
-use crate::tree::Single;
 use core_meaning::Core;
+use core_normal::{NormFault, normalise};
+use core_scope::{ScopeFault, resolve};
 use doc_table::Store;
 use std::alloc::Global;
 use thiserror::Error;
-use xq_ast::node::AsRead;
+use xq_ast::node::{AsRead, AsResolved};
 use xq_ast::query::Query;
 use xq_base::{Code, Pool};
 use xq_parser::{ParseFault, parse};
 use xq_serial::{SerialFault, serialise};
+use xq_types::{TypeFault, Typed, type_of};
 
 /// Why a query isn't compiled.
 #[derive(Debug, Drop, Error)]
 pub enum CompileFault {
     #[error("want of memory")]
     NoMemory,
-    /// The static rules refuse the query: XPST0003 where the text is no query; PFRC0003 where it nests
-    /// too deep; PFRC0004 where it has a construct that is left out, or a form that is not evaluated, or
-    /// both a sum and a call of `doc`, all three without a place; and with their place FOAR0002 at an
-    /// integer that doesn't fit 64 bits and XPST0008 at a reference without a binding, whichever stands
-    /// first.
+    /// The static rules refuse the query, in this order: XPST0003 where the text is no query, PFRC0003 where
+    /// it nests too deep and PFRC0004 where it has a construct that is left out, without a place; the first
+    /// refusal of a name, a function, a type's name, a number or a declaration, at its place; PFRC0002 where
+    /// the Core is too large, without a place; XPTY0004 at the least place that types refuse; PFRC0004 where
+    /// a form isn't evaluated, or both a sum and a call of `doc` are there, without a place.
     #[error("the query is refused")]
     Refused { code: Code, offset: Option<u64> },
 }
@@ -57,9 +57,9 @@ pub enum AnswerFault {
 }
 
 /// The refusal of a text that wasn't read.
-#[tactic(auto, using(crate::proofs::Answers::unread_syntax, crate::proofs::Answers::unread_deep, crate::proofs::Answers::unread_left))]
+#[tactic(auto, using(crate::proofs::Compiling::unread_syntax, crate::proofs::Compiling::unread_deep, crate::proofs::Compiling::unread_left))]
 fn unread(fault: ParseFault) -> CompileFault
-    ensures { (text : List ℕ) → Faults text fault → CompileFails text result }
+    ensures { (text : List ℕ) → Faults text fault → FailsBy (IsStatic text) result }
 {
     let code = match fault {
         ParseFault::NoMemory => return CompileFault::NoMemory,
@@ -70,66 +70,84 @@ fn unread(fault: ParseFault) -> CompileFault
     CompileFault::Refused { code, offset: None }
 }
 
-/// The Core of expressions of which nothing is refused, where it is evaluated.
-fn compile_core(alloc: Global, query: &[Single], pool: &mut Pool) -> Result<Core, CompileFault>
-    ensures core { GivesStatic (of_core (norm query.now)) pool.new result }
-    ensures keeps { Grows pool.old pool.new }
+/// The typed Core, where types refuse nothing and it is evaluated.
+fn compile_core(alloc: Global, core: Core, pool: &Pool) -> Result<Typed, CompileFault>
+    requires lawful { IsLawful core }
+    requires fixed { IsFixed pool.now core }
+    ensures { GivesBy (λ static. static ≡ of_core (core_of pool.now core)) pool.now result }
 {
-    let Ok(core) = normalise(alloc, query, pool) else {
-        return Err(CompileFault::NoMemory);
-    };
-    if is_evaluated(&core, pool) {
-        Ok(core)
-    } else {
-        Err(CompileFault::Refused {
-            code: Code::PFRC0004,
-            offset: None,
-        })
-    }
-}
-
-/// The Core of expressions all of whose forms are evaluated.
-fn compile_parts(alloc: Global, query: &[Single], pool: &mut Pool) -> Result<Core, CompileFault>
-    ensures core { GivesStatic (of_scope query.now (least (refusals query.now))) pool.new result }
-    ensures keeps { Grows pool.old pool.new }
-{
-    match first_refusal(alloc, query) {
-        Err(_) => Err(CompileFault::NoMemory),
-        Ok(Some(refusal)) => Err(CompileFault::Refused {
-            code: refusal.code,
-            offset: Some(refusal.place),
+    match type_of(alloc, core) {
+        Err(TypeFault::NoMemory) => Err(CompileFault::NoMemory),
+        Err(TypeFault::Refused { offset }) => Err(CompileFault::Refused {
+            code: Code::XPTY0004,
+            offset: Some(offset),
         }),
-        Ok(None) => compile_core(alloc, query, pool),
+        Ok(typed) => {
+            if is_evaluated(typed.core(), pool) {
+                Ok(typed)
+            } else {
+                Err(CompileFault::Refused {
+                    code: Code::PFRC0004,
+                    offset: None,
+                })
+            }
+        }
     }
 }
 
-/// The Core of a query.
+/// The typed Core of a query whose names are resolved.
+fn compile_resolved(
+    alloc: Global,
+    query: &Query<AsResolved>,
+    pool: &Pool,
+) -> Result<Typed, CompileFault>
+    requires scoped { IsScoped query.now }
+    requires fixed { IsFixedQuery pool.now query.now }
+    requires first { slice_get pool.now 0 ≡ Some [] }
+    ensures { GivesBy (IsOfScoped (accepted (query_resolved pool.now query.now))) pool.now result }
+{
+    match normalise(alloc, query) {
+        Err(NormFault::NoMemory) => Err(CompileFault::NoMemory),
+        Err(NormFault::TooLarge { .. }) => Err(CompileFault::Refused {
+            code: Code::PFRC0002,
+            offset: None,
+        }),
+        Ok(core) => compile_core(alloc, core, pool),
+    }
+}
+
+/// The typed Core of a query.
 fn compile_query(
     alloc: Global,
     query: &Query<AsRead>,
     pool: &mut Pool,
-) -> Result<Core, CompileFault>
-    ensures core { GivesStatic (static_of (tree query.now)) pool.new result }
+) -> Result<Typed, CompileFault>
+    requires read { IsRead query.now }
+    ensures core { GivesBy (IsOfQuery (query_read query.now)) pool.new result }
     ensures keeps { Grows pool.old pool.new }
 {
-    match evaluated_of(alloc, query) {
-        Err(_) => Err(CompileFault::NoMemory),
-        Ok(None) => Err(CompileFault::Refused {
-            code: Code::PFRC0004,
-            offset: None,
+    // The texts begin with the empty one: the pool has it, and asking for its number tells so.
+    if pool.intern("").is_err() {
+        return Err(CompileFault::NoMemory);
+    }
+    match resolve(alloc, query, pool) {
+        Err(ScopeFault::NoMemory) => Err(CompileFault::NoMemory),
+        Err(ScopeFault::Refused { code, offset }) => Err(CompileFault::Refused {
+            code,
+            offset: Some(offset),
         }),
-        Ok(Some(parts)) => compile_parts(alloc, parts.as_slice(), pool),
+        Ok(resolved) => compile_resolved(alloc, &resolved, pool),
     }
 }
 
 /// Reads a query and checks it by the static rules (XQuery 1.0, sections 2.2.3.1 and 2.3.1). The
-/// pool gets the texts of its literals; earlier numbers keep their texts.
+/// pool gets the texts of its names and literals; earlier numbers keep their texts.
 ///
 /// `text` is the query in UTF-8, of the whole language. What is evaluated is a part of it: integers,
-/// variables, sequences, sums, loops of one `for` clause, and `doc` of a string.
+/// variables, sequences, sums, loops and bindings, and `doc` of a string.
 ///
 /// Errors: the refusal, or want of memory.
-pub fn compile(alloc: Global, text: &[u8], pool: &mut Pool) -> Result<Core, CompileFault>
+pub fn compile(alloc: Global, text: &[u8], pool: &mut Pool) -> Result<Typed, CompileFault>
     ensures core { Compiles text.now pool.new result }
     ensures keeps { Grows pool.old pool.new }
 {
@@ -139,11 +157,8 @@ pub fn compile(alloc: Global, text: &[u8], pool: &mut Pool) -> Result<Core, Comp
     }
 }
 
-/// The serialisation of the value of a query's Core over the documents of a store, or its first
-/// failure (XQuery 1.0, section 2.3.2; which of several failures: own rule).
-///
-/// Errors: the failure, or want of memory.
-pub fn answer(
+/// The same of the Core.
+fn answer_core(
     alloc: Global,
     core: &Core,
     store: &Store,
@@ -180,6 +195,24 @@ pub fn answer(
             },
         },
     }
+}
+
+/// The serialisation of the value of a query's Core over the documents of a store, or its first
+/// failure (XQuery 1.0, section 2.3.2; which of several failures: own rule).
+///
+/// Errors: the failure, or want of memory.
+pub fn answer(
+    alloc: Global,
+    query: &Typed,
+    store: &Store,
+    pool: &Pool,
+) -> Result<Vec<u8>, AnswerFault>
+    requires core { CanEvaluate pool.now query.now }
+    requires trees { trees_given (length pool.now) store.now ≡ true }
+    requires names { AreGiven pool.now store.now.docs }
+    ensures { Answers (documents_in pool.now store.now) (expr_of (core_of pool.now query.now)) result }
+{
+    answer_core(alloc, query.core(), store, pool)
 }
 
 /// A text has at most one meaning over documents, and the static rules either refuse it or accept it.

@@ -1,4 +1,4 @@
-//! From the text of a query to the bytes of its answer: reading, scope, normalisation, evaluation.
+//! From the text of a query to the bytes of its answer: reading, scope, normalisation, types, evaluation.
 //! A query that the static rules refuse has no Core, and a failing evaluation no bytes.
 //! `compile` refuses exactly by the grammar and the scope; `answer` gives the value or the first failure.
 #![tactic(auto)]
@@ -6,13 +6,7 @@
 mod engine;
 mod evaluate;
 mod forms;
-mod integers;
-mod names;
-mod normal;
-mod parts;
-mod scope;
 mod size;
 mod sums;
-mod tree;
 
 pub use engine::{AnswerFault, CompileFault, answer, compile, one_meaning};

@@ -27,7 +27,7 @@ returns-clause-asked g c = asks_then (g.F.Shelf.asked c.args.shelf.now) (g.F.She
 
 pub returns-clause-replies : goal.returns-clause-replies
 returns-clause-replies g c =
-    stopped (g.F.Shelf.files c.args.shelf.now) c.args.query.now (map string_bytes c.args.names.now) c.as_slice.result.now c.load_documents.new.pool c.in-Ok-compile_text.core c.in-Err-load_documents.status
+    stopped (g.F.Shelf.files c.args.shelf.now) c.args.query.now (map string_bytes c.args.names.now) c.as_slice.result.now c.load_documents.new.pool c.in-Ok-compile_text.typed c.in-Err-load_documents.status
     (subst (IsWithin (g.F.Shelf.files c.args.shelf.now) query_limit c.args.query.now) (sym c.as_slice.ensures.value) c.in-Ok.ensures.read)
     (c.in-Ok-compile_text.ensures.compiled c.load_documents.new.pool c.load_documents.ensures.grown).0
     (subst (λ z. StopsAt z (map string_bytes c.args.names.now) c.in-Err-load_documents.status) c.in-Ok.ensures.files c.in-Err-load_documents.ensures.loads)

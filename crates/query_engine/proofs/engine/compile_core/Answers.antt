@@ -1,9 +1,15 @@
-use Rattle.std.proofs.Common.{sym, ◌∙◌}
-use Rattle.query_engine.proofs.Answers.{accepted_core, refused_core}
+use Rattle.std.proofs.Common.{subst}
+use Rattle.xq_types.specs.TypeOf.{Tells}
+use Rattle.query_engine.proofs.Compiling.{core_untyped, typed_accepted, typed_left}
 use Rattle.query_engine.proofs.engine.compile_core.Goals as goal
 
-pub returns-then-is_evaluated-clause-core : goal.returns-then-is_evaluated-clause-core
-returns-then-is_evaluated-clause-core c = accepted_core c.normalise.new.pool c.args.query.now c.in-Ok.core c.in-Ok.ensures.read (sym c.if-is_evaluated.true ∙ c.is_evaluated.ensures)
+pub returns-in-Err-Refused : goal.returns-in-Err-Refused
+returns-in-Err-Refused c = core_untyped c.args.pool.now c.args.core c.in-Err-Refused.offset (subst (Tells c.args.core) c.in-Err-Refused.field-0-is c.in-Err-Refused.ensures.refused)
 
-pub returns-else-is_evaluated-clause-core : goal.returns-else-is_evaluated-clause-core
-returns-else-is_evaluated-clause-core c = refused_core c.normalise.new.pool c.args.query.now c.in-Ok.core c.in-Ok.ensures.read (sym c.if-is_evaluated.false ∙ c.is_evaluated.ensures)
+pub returns-then-is_evaluated : goal.returns-then-is_evaluated
+returns-then-is_evaluated c =
+    typed_accepted c.args.pool.now c.args.core c.in-Ok.typed c.core.result.now c.is_evaluated.result c.in-Ok.ensures.core c.core.ensures.core c.in-Ok.ensures.accepted c.requires.fixed c.is_evaluated.ensures c.if-is_evaluated.true
+
+pub returns-else-is_evaluated : goal.returns-else-is_evaluated
+returns-else-is_evaluated c =
+    typed_left c.args.pool.now c.args.core c.in-Ok.typed c.core.result.now c.is_evaluated.result c.in-Ok.ensures.core c.core.ensures.core c.in-Ok.ensures.accepted c.is_evaluated.ensures c.if-is_evaluated.false

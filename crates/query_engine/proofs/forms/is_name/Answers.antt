@@ -1,6 +1,6 @@
 use Rattle.std.proofs.Common.{sym}
 use Rattle.core_meaning.specs.Erasure.{core_of}
-use Rattle.query_engine.proofs.Answers.{no_name}
+use Rattle.query_engine.proofs.Compiling.{no_name}
 use Rattle.query_engine.proofs.forms.is_name.Goals as goal
 
 pub returns-in-len2-up : goal.returns-in-len2-up

@@ -5,7 +5,7 @@ use Rattle.doc_table.specs.StoredItems.{meanings}
 use Rattle.xq_serial.specs.Answer as serial
 use Rattle.query_engine.specs.Evaluating.{AllFit, FaultOf, fails_of}
 use Rattle.query_engine.proofs.Answered.{runs_chosen, all_given, writes, holds_attribute, fails_first}
-use Rattle.query_engine.proofs.engine.answer.Goals as goal
+use Rattle.query_engine.proofs.engine.answer_core.Goals as goal
 
 pub eval-requires-clause-core : goal.eval-requires-clause-core
 eval-requires-clause-core c = runs_chosen c.has_forms-sums.result c.args.pool.now c.args.core.now c.has_forms-sums.ensures c.requires.core
