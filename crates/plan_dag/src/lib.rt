@@ -18,3 +18,4 @@ pub use keys::{Key, Keys};
 pub use op::{Agg, Op, OpId, Place};
 pub use pairs::{Pair, Pairs};
 pub use plan::Plan;
+pub use shape::{first_input, second_input};

@@ -1,6 +1,6 @@
 //! Plans.
 ghost use Rattle.std.specs.Prelude.{◌≡◌, true, length, slice_get, Some, OnErr, OnOk, IfOk};
-ghost use Rattle.plan_dag.specs.Schema.{fits};
+ghost use Rattle.plan_dag.specs.Schema.{fits, is_valid};
 ghost use Rattle.plan_dag.specs.Graphs.{Adds, HasRootColumns, with_check, with_root, in_graph, empty_graph};
 
 use crate::check::Check;
@@ -45,6 +45,13 @@ impl Plan {
             checks: Vec::new(alloc),
             root: None,
         }
+    }
+
+    /// What a plan keeps: each operator fits behind those before it. It takes no memory.
+    pub fn validity(&self)
+        ensures { is_valid self.now.ops ≡ true }
+    {
+        let _ = &self.kept;
     }
 
     /// Whether the operator may be added. It takes no memory.

@@ -7,7 +7,7 @@ use xq_base::Want;
 
 /// A node in an iteration, in the order in which hits come out.
 #[derive(Clone, Copy, Debug, PartialEq, Eq, PartialOrd, Ord)]
-pub(crate) struct Hit {
+pub struct Hit {
     pub pre: u32,
     pub attr: u32,
     pub iter: u64,
@@ -32,8 +32,10 @@ fn push_new(last: Option<Hit>, hit: Hit, out: &mut Vec<Ctx>) -> Result<(), Want>
     Ok(())
 }
 
-/// Appends the hits, ascending, each once. For want of memory some first ones are appended.
-pub(crate) fn append_hits(hits: &mut Vec<Hit>, out: &mut Vec<Ctx>) -> Result<(), Want>
+/// Appends the hits, ascending, each once (own rule).
+///
+/// Errors: `Want`, where memory is wanting; some first ones are appended then.
+pub fn append_hits(hits: &mut Vec<Hit>, out: &mut Vec<Ctx>) -> Result<(), Want>
     ensures hits { OnOk result (AppendsHits hits.old.items out.old.items out.new.items) }
     ensures kept { Extends out.old.items out.new.items }
 {

@@ -30,6 +30,7 @@ mod task;
 mod tasks;
 mod test;
 
+pub use hits::{Hit, append_hits};
 pub use kinds::{Ctx, Tally};
 pub use laws::hits_are_reached;
 pub use step::join;

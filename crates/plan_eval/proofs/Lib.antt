@@ -1,0 +1,17 @@
+pub mod ContextLaws
+pub mod DocumentHits
+pub mod EventLaws
+pub mod FoundSoFar
+pub mod GrownRules
+pub mod OnceMaps
+pub mod OrderLaws
+pub mod PlainLaws
+pub mod RootLaws
+pub mod RunLaws
+pub mod StepLaws
+pub mod StepRows
+pub mod TableLaws
+pub mod TouchedSets
+pub mod TurnLaws
+pub mod UseLaws
+pub mod Worked

@@ -1,0 +1,9 @@
+pub mod Contexts
+pub mod Entries
+pub mod Evaluating
+pub mod Making
+pub mod Plans
+pub mod Root
+pub mod Running
+pub mod Turns
+pub mod Uses
