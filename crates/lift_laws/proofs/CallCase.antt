@@ -16,7 +16,7 @@ use Rattle.core_meaning.specs.Lawful.{nodes, nodes_all, is_sited, sited_all}
 use Rattle.core_meaning.specs.Work.{free, free_all, rule_work}
 use Rattle.lift_laws.specs.Sums.{total, AllOf}
 use Rattle.lift_laws.specs.Iterations.{Iter, item_rows}
-use Rattle.lift_laws.specs.Bulk.{list_of, value, values_of, fault, own_faults, faults, faults_all, cost_all, weight, Step, own_walks}
+use Rattle.lift_laws.specs.Bulk.{list_of, value, values_of, fault, own_faults, faults, faults_all, cost_all, weight, Step, own_walks, sites, sites_all}
 use Rattle.lift_laws.specs.Worlds.{World, Reach, cell_of, Known, Faithful, Among, tree_under}
 use Rattle.lift_laws.specs.States.{State, StepAt, Grows, HoldAll}
 use Rattle.lift_laws.specs.Lifting.{Note, NoteStands, NotedBy, Walked, Tells, Chunk, PartsKnown, part_cells, Lifts, LiftsAll, call_answer, call_faults, call_cost, OwnSteps, Rooted, CallLifts, answer_cells, Fair}
@@ -25,7 +25,7 @@ use Rattle.lift_laws.proofs.Picks.{all_each, all_mono, all-append, flat-all}
 use Rattle.lift_laws.proofs.Values.{Has, append_nil, all_two, ValuesAt, no_faults_all}
 use Rattle.lift_laws.proofs.Free.{in_left, in_right}
 use Rattle.lift_laws.proofs.Sizes.{map_length, own_most, values_weigh, total_most_all, count_list}
-use Rattle.lift_laws.proofs.Keeping.{append_none, grows_self, holds_keep, holds_rows, stands_keep, hold_all_keep, notes_keep, walked_quiet, walked_then, chunk_none, chunk_then, chunk_makes, chunk_told, chunk_below, faults_all_from, own_from, tells_then, small_none}
+use Rattle.lift_laws.proofs.Keeping.{append_none, grows_self, holds_keep, holds_rows, stands_keep, hold_all_keep, notes_keep, sited_then, walked_quiet, walked_then, chunk_none, chunk_then, chunk_makes, chunk_told, chunk_below, faults_all_from, own_from, tells_then, small_none}
 use Rattle.lift_laws.proofs.Known.{knowns_rooted, work_cells}
 
 pub among_each : (its : List Iter) → AllOf (λ i. Among i its) its
@@ -78,6 +78,7 @@ module _ (docs : Docs) where
   pub no_args : (s : State) (n : ℕ) (looped : OpId) (vars : ℕ → OpId) → LiftsAll docs s s n no_more looped vars []
   no_args s n looped vars = record {
     chunk = chunk_none n (n + 0) (grows_self s);
+    sited = tt;
     walked = walked_quiet refl;
     told = λ W N its en. ((refl, small_none (length s.tables) N), (λ e. (tt, all_each _ (λ i. tt) its, tt)));
   }
@@ -85,6 +86,7 @@ module _ (docs : Docs) where
   pub more_args : {s s1 s2 : State} (n : ℕ) (e : Expr) (es : Exprs) (looped : OpId) (vars : ℕ → OpId) (t : OpId) (ts : List OpId) → sited_all n (one_more e es) ≡ true → Lifts docs s s1 n e looped vars t → LiftsAll docs s1 s2 (n + nodes e) es looped vars ts → LiftsAll docs s s2 n (one_more e es) looped vars (t ∷ ts)
   more_args {s = s} {s1 = s1} {s2 = s2} n e es looped vars t ts sited l ls = record {
     chunk = chunk_makes n (n + nodes e + nodes_all es) (n + nodes_all (one_more e es)) (omega arith) (chunk_then n (n + nodes e) (n + nodes e + nodes_all es) (omega arith) (omega arith) l.chunk ls.chunk) (grows_self s2);
+    sited = sited_then (sites e) (sites_all es) l.chunk.groups ls.chunk.groups l.sited ls.sited;
     walked = walked_then l.walked ls.walked;
     told = λ W N its en.
         let enough = en.enough in
@@ -106,7 +108,7 @@ module _ (docs : Docs) where
         );
   }
 
-  vals_are : (es : Exprs) (i : Iter) → ValuesAt docs es i → vals docs es i.env i.vector ≡ Some (map (λ g. g i) (values_of docs es))
+  pub vals_are : (es : Exprs) (i : Iter) → ValuesAt docs es i → vals docs es i.env i.vector ≡ Some (map (λ g. g i) (values_of docs es))
   vals_are no_more i h = refl
   vals_are (one_more e es) i h = go (val docs e i.env i.vector) refl (vals docs es i.env i.vector) refl (λ k. vals_are es i k) h
     where
@@ -144,7 +146,7 @@ module _ (docs : Docs) where
   )
 
   own_notes : (W : World) (s : State) (site : Site) (r : Rule) (es : Exprs) (ts : List OpId) (its : List Iter) → W site.number ≡ record { site = site; rule = r; parts = es; its = its } → HoldAll s ts (part_cells docs W es) its → PartsKnown docs W es its → AllOf (NoteStands docs W s) (notes_of site r es ts)
-  own_notes W s site (Walk from axis test) es ts its k h j = ((subst (λ (q : Reach). HoldAll s ts (part_cells docs W es) q.its) (sym k) h, subst (λ (q : Reach). PartsKnown docs W es q.its) (sym k) j), tt)
+  own_notes W s site (Walk from axis test) es ts its k h j = ((subst (λ (q : Reach). HoldAll s ts (part_cells docs W es) q.its) (sym k) h, subst (λ (q : Reach). PartsKnown docs W es q.its) (sym k) j, ap (λ (q : Reach). q.parts) k), tt)
   own_notes W s site (Apply f) es ts its k h j = tt
   own_notes W s site (Make kind) es ts its k h j = tt
   own_notes W s site (IsOf t) es ts its k h j = tt
@@ -219,6 +221,7 @@ module _ (docs : Docs) where
     pub call_lifts : Lifts docs s s2 n (Call site r es) looped vars t
     call_lifts = record {
       chunk = chunk_makes n (n + nodes_all es + 1) (n + nodes (Call site r es)) (omega arith) (chunk_then n (n + nodes_all es) (n + nodes_all es + 1) (omega arith) (omega arith) ls.chunk own) (grows_self s2);
+      sited = sited_then (sites_all es) (site ∷ []) ls.chunk.groups own.groups ls.sited (inl refl, tt);
       walked = walked_then ls.walked (own_walked site r es ts cl.steps);
       told = λ W N its en.
           let enough = en.enough in

@@ -74,7 +74,7 @@ pub the_cost_is_work : CostIsWork
 the_cost_is_work docs e i = cost_is_work docs e i
 
 pub checks_answer : ChecksAnswer
-checks_answer R fs root N s lo hi gs t o f = verdict R s.tables fs root N s lo hi gs refl t o f
+checks_answer R fs root ss N s lo hi gs t o f = verdict R s.tables fs root ss N s lo hi gs refl t o f
 
 pub demands_are_small : DemandsAreSmall
 demands_are_small N s hi gs fs t = demands N s hi gs fs t

@@ -87,7 +87,7 @@ cell_same (NodeItem n) (NodeItem m) (NodeItem x) e = nodes.eq_same n m x e
 pub cells_equal : IsEquivalence cell_eq
 cells_equal = record { refl = cell_eq_self; symm = cell_turn; congr = cell_same }
 
-same-path : (p q : Path) → path_eq p q ≡ true → p ≡ q
+pub same-path : (p q : Path) → path_eq p q ≡ true → p ≡ q
 same-path p q k =
     let r = and_parts (is_same p.steps q.steps) (nat_eq p.attr q.attr) k in
     ap (λ s. record { steps = s; attr = p.attr }) (same-lists p.steps q.steps r.0) ∙ ap (λ k. record { steps = q.steps; attr = k }) (eqb-true p.attr q.attr r.1)

@@ -12,7 +12,7 @@ use Rattle.core_meaning.specs.Lawful.{nodes, is_sited}
 use Rattle.core_meaning.specs.Work.{free, union}
 use Rattle.lift_laws.specs.Sums.{total, AllOf, Ascends, Same}
 use Rattle.lift_laws.specs.Iterations.{Iter, item_rows, value_rows, loop_rows, cells}
-use Rattle.lift_laws.specs.Bulk.{list_of, value, chosen_in, other_in, chosen, other, faults, cost}
+use Rattle.lift_laws.specs.Bulk.{list_of, value, chosen_in, other_in, chosen, other, faults, cost, sites}
 use Rattle.lift_laws.specs.Worlds.{World, cell_of, Known}
 use Rattle.lift_laws.specs.States.{State, at, Small, Grows, Makes, Holds, StandsFor, three, single}
 use Rattle.lift_laws.specs.Shapes.{chosen_rows, other_rows, restrict_rows, either_rows}
@@ -24,7 +24,7 @@ use Rattle.lift_laws.proofs.Simple.{two_hold, chosen_stands, keep_ascends, restr
 use Rattle.lift_laws.proofs.Values.{append_nil, all_two, ValueAt, no_faults}
 use Rattle.lift_laws.proofs.Free.{in_left, in_right}
 use Rattle.lift_laws.proofs.Sizes.{size_values, size_loop, weighs, values_weigh, many_free, own_most}
-use Rattle.lift_laws.proofs.Keeping.{grows_trans, holds_keep, holds_rows, makes_holds, stands_keep, notes_keep, small_most, small_join, small_keep, tells_upper, tells_then, faults_from, chunk_then, chunk_makes, walked_then, walked_more, chunk_told, chunk_below}
+use Rattle.lift_laws.proofs.Keeping.{grows_trans, holds_keep, holds_rows, makes_holds, stands_keep, notes_keep, small_most, small_join, small_keep, tells_upper, tells_then, faults_from, chunk_then, chunk_makes, sited_then, walked_then, walked_more, chunk_told, chunk_below}
 
 pub keep_same : {A : Type 0} (p q : A → Bool) (xs : List A) → AllOf (λ x. p x ≡ q x) xs → filter p xs ≡ filter q xs
 keep_same p q [] a = refl
@@ -50,7 +50,7 @@ true_cells W (v ∷ u ∷ vs) = two_hold (cell_of W v) (cell_of W u) (map (cell_
 module _ (docs : Docs) where
   -- one branch is entered
   module _ {s s' : State} (W : World) (N : ℕ) (p : Iter → Bool) (e : Expr) (l : OpId) (vars vars' : ℕ → OpId) (its : List Iter) (asc : Ascends (λ i. i.number) 0 its) (r : Restricts s s' l vars vars' e)
-      (hl : Holds s l single (loop_rows (filter p its))) (hv : (y : ℕ) → IsFree y e → StandsFor docs W s (vars y) (λ i. i.env y) its) (enough : cost docs e (filter p its) ≤ N) where
+      (hl : Holds s l single (loop_rows (filter p its))) (hv : (y : ℕ) → IsFree y e → StandsFor docs W s (vars y) (λ i. i.env y) its) where
     branch_var : (y : ℕ) → IsFree y e → Same (restrict_rows (at s l).rows (at s (vars y)).rows) (value_rows (cells (cell_of W) (λ i. i.env y)) (filter p its))
     branch_var y f = restrict_stands p (cells (cell_of W) (λ i. i.env y)) its _ _ asc hl.rows_are (hv y f).there.rows_are
 
@@ -63,18 +63,23 @@ module _ (docs : Docs) where
           known = keep_hold (λ (i : Iter). AllOf (Known docs W) (i.env y)) p its (hv y f).known;
         }
 
-    pub branch_small : Small s' (length s.tables) (length s'.tables) N
-    branch_small =
+    pub branch_small : length (filter p its) ≤ N → ((y : ℕ) → IsFree y e → total (λ i. length (i.env y)) (filter p its) ≤ N) → Small s' (length s.tables) (length s'.tables) N
+    branch_small few used =
         let a = same-length hl.rows_are in
         let b = size_loop (filter p its) in
-        let d = weighs docs e (filter p its) in
-        let g = own_most docs e (filter p its) in
         let m : length (at s l).rows ≤ N = omega arith in
         r.small N m (λ y f.
         let h = same-length (branch_var y f) in
         let k = size_values (cell_of W) (λ i. i.env y) (filter p its) in
-        let j = many_free docs e y f (filter p its) in
+        let j = used y f in
         let q : length (restrict_rows (at s l).rows (at s (vars y)).rows) ≤ N = omega arith in q)
+
+    -- it is small where the branch is lifted
+    branch_enough : cost docs e (filter p its) ≤ N → Small s' (length s.tables) (length s'.tables) N
+    branch_enough enough =
+        let d = weighs docs e (filter p its) in
+        let g = own_most docs e (filter p its) in
+        branch_small (omega arith) (λ y f. let j = many_free docs e y f (filter p its) in omega arith)
 
   module _ {s s1 s2 s3 s4 s5 s6 s7 s8 : State} (n : ℕ) (d a b : Expr) (looped : OpId) (vars va vb : ℕ → OpId) (tc chosen_loop other_loop ta tb t : OpId)
       (sited : is_sited n (If d a b) ≡ true)
@@ -145,7 +150,7 @@ module _ (docs : Docs) where
         enough = enough_a;
         ascends = keep_ascends (chosen docs d) 0 its en.ascends;
         loop = holds_keep ra.grows yes_3;
-        scope = λ y f. branch_stands W N (chosen docs d) a chosen_loop vars va its en.ascends ra yes_3 var_3 enough_a y f;
+        scope = λ y f. branch_stands W N (chosen docs d) a chosen_loop vars va its en.ascends ra yes_3 var_3 y f;
       }
 
       enters_b : Enters docs W N s6 b other_loop vb (filter (other docs d) its)
@@ -155,7 +160,7 @@ module _ (docs : Docs) where
         enough = enough_b;
         ascends = keep_ascends (other docs d) 0 its en.ascends;
         loop = holds_keep rb.grows no_5;
-        scope = λ y f. branch_stands W N (other docs d) b other_loop vars vb its en.ascends rb no_5 var_5 enough_b y f;
+        scope = λ y f. branch_stands W N (other docs d) b other_loop vars vb its en.ascends rb no_5 var_5 y f;
       }
 
       before_a : Small s4 (length s1.tables) (length s4.tables) N
@@ -174,10 +179,10 @@ module _ (docs : Docs) where
           let m1 : length (at s1 tc).rows ≤ N = omega arith in
           let m2 : length (at s2 looped).rows ≤ N = omega arith in
           small_join (small_keep (grows_trans mn.grows ra.grows) (omega arith) (small_most my.small m1))
-          (small_join (small_keep ra.grows (omega arith) (small_most mn.small m2)) (branch_small W N (chosen docs d) a chosen_loop vars va its en.ascends ra yes_3 var_3 enough_a))
+          (small_join (small_keep ra.grows (omega arith) (small_most mn.small m2)) (branch_enough W N (chosen docs d) a chosen_loop vars va its en.ascends ra yes_3 var_3 enough_a))
 
       before_b : Small s6 (length s5.tables) (length s6.tables) N
-      before_b = branch_small W N (other docs d) b other_loop vars vb its en.ascends rb no_5 var_5 enough_b
+      before_b = branch_enough W N (other docs d) b other_loop vars vb its en.ascends rb no_5 var_5 enough_b
 
       if_value : (i : Iter) → ValueAt docs d i → cond (p i) (value docs a i) (value docs b i) ≡ value docs (If d a b) i
       if_value i u =
@@ -233,6 +238,7 @@ module _ (docs : Docs) where
       chunk = chunk_makes n (n + nodes d + nodes a + nodes b) (n + nodes (If d a b)) (omega arith)
           (chunk_then n (n + nodes d) (n + nodes d + nodes a + nodes b) (omega arith) (omega arith) (chunk_makes n (n + nodes d) (n + nodes d) (omega arith) ld.chunk to_4)
           (chunk_then (n + nodes d) (n + nodes d + nodes a) (n + nodes d + nodes a + nodes b) (omega arith) (omega arith) (chunk_makes (n + nodes d) (n + nodes d + nodes a) (n + nodes d + nodes a) (omega arith) la.chunk rb.grows) lb.chunk)) mt.grows;
+      sited = sited_then (sites d) (sites a ++ sites b) ld.chunk.groups (la.chunk.groups ++ lb.chunk.groups) ld.sited (sited_then (sites a) (sites b) la.chunk.groups lb.chunk.groups la.sited lb.sited);
       walked = walked_more (walked_then (walked_more ld.walked (ra.quiet ∙ mn.quiet ∙ my.quiet)) (walked_then (walked_more la.walked rb.quiet) lb.walked)) mt.quiet;
       told = λ W N its en.
           let enough = en.enough in

@@ -1,5 +1,5 @@
 -- Calls of `instance of` and `treat as` the type of no items, and of conversions to it, from the rows of their operators.
-use Rattle.std.proofs.Common.{◌≡◌, ◌+◌, Bool, true, false, cond, [], ◌∷◌, length, refl, sym, ap, ◌∙◌, Some, None, true≢false}
+use Rattle.std.proofs.Common.{◌≡◌, ◌+◌, true, false, cond, [], ◌∷◌, length, refl, ap, ◌∙◌, Some, None, true≢false}
 use Rattle.xq_base.specs.declared.code.Code.{Code}
 use Rattle.xq_base.specs.declared.code.Code.TheVariants as c
 use Rattle.xq_base.specs.Answers.{Value}

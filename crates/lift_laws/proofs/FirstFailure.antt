@@ -17,7 +17,7 @@ use Rattle.lift_laws.specs.Bulk.{Fault}
 use Rattle.lift_laws.specs.States.{State, at, column}
 use Rattle.lift_laws.specs.Shapes.{bare}
 use Rattle.lift_laws.specs.Lifting.{Group, checks_of, numbers_at, first_cells, HasCode, InCodeOrder, TellsOf, Tells}
-use Rattle.lift_laws.specs.Verdicts.{Verdict, quiet, failed, SmallFrom}
+use Rattle.lift_laws.specs.Verdicts.{OfNode, Verdict, quiet, failed, SmallFrom}
 use Rattle.lift_laws.proofs.Numbers.{nat_eq_self}
 use Rattle.lift_laws.proofs.Picks.{all_mono}
 use Rattle.lift_laws.proofs.Values.{all_two}
@@ -59,21 +59,21 @@ has_later n c (d ∷ ds) a h = let l = a.0 in ⊎_elim (λ e. let q = ap check_r
 abbrev Covered : Site → List Check → List Fault → Type 0
 Covered site cs fs = AllOf (λ f. (site.number ≤ f.failure.site.number) × (f.failure.site.number ≡ site.number → HasCode f.failure.code cs)) fs
 
-module _ (R : Rules Cell) (ts : List (Table Cell)) (fs : List Fault) (root : Option OpId) where
+module _ (R : Rules Cell) (ts : List (Table Cell)) (fs : List Fault) (root : Option OpId) (ss : List Site) where
   abbrev Exact : Site → Check → Type 0
   Exact site c = (v : Cell → ℕ) → total v (first_cells (table_at ts c.op)) ≡ total v (numbers_at site.number c.code fs)
 
   abbrev Gone : Check → Type 0
   Gone c = (table_at ts c.op).rows ≡ []
 
-  walk : (site : Site) (cs more : List Check) → Covered site cs fs → AllOf (λ (c : Check). c.offset ≡ site.offset) cs → InCodeOrder cs → AllOf (Exact site) cs → (AllOf Gone cs → Verdict R ts fs root (answer_from R ts more root)) → Verdict R ts fs root (answer_from R ts (cs ++ more) root)
+  walk : (site : Site) (cs more : List Check) → Covered site cs fs → AllOf (OfNode ss site) cs → InCodeOrder cs → AllOf (Exact site) cs → (AllOf Gone cs → Verdict R ts fs root ss (answer_from R ts more root)) → Verdict R ts fs root ss (answer_from R ts (cs ++ more) root)
   walk site [] more v f o e k = k tt
   walk site (c ∷ cs) more v f o e k =
       step site c cs more v f.0 o e (nat_lt 0 (length (table_at ts c.op).rows)) refl
       (λ v' z. walk site cs more v' f.1 o.1 e.1 (λ a. k (z, a)))
     where
-      step : (site : Site) (c : Check) (cs more : List Check) → Covered site (c ∷ cs) fs → c.offset ≡ site.offset → InCodeOrder (c ∷ cs) → AllOf (Exact site) (c ∷ cs) → (b : Bool) → nat_lt 0 (length (table_at ts c.op).rows) ≡ b
-          → (Covered site cs fs → Gone c → Verdict R ts fs root (answer_from R ts (cs ++ more) root)) → Verdict R ts fs root (cond b (Refuses c.code c.offset) (answer_from R ts (cs ++ more) root))
+      step : (site : Site) (c : Check) (cs more : List Check) → Covered site (c ∷ cs) fs → OfNode ss site c → InCodeOrder (c ∷ cs) → AllOf (Exact site) (c ∷ cs) → (b : Bool) → nat_lt 0 (length (table_at ts c.op).rows) ≡ b
+          → (Covered site cs fs → Gone c → Verdict R ts fs root ss (answer_from R ts (cs ++ more) root)) → Verdict R ts fs root ss (cond b (Refuses c.code c.offset) (answer_from R ts (cs ++ more) root))
       step site c cs more v f o e true q r = failed site c f (record {
         here = λ z. cells_some (table_at ts c.op) q (e.0 (λ (x : Cell). 1) ∙ z);
         least = all_mono _ _ (λ f (h : (site.number ≤ f.failure.site.number) × (f.failure.site.number ≡ site.number → HasCode f.failure.code (c ∷ cs))).
@@ -88,7 +88,7 @@ module _ (R : Rules Cell) (ts : List (Table Cell)) (fs : List Fault) (root : Opt
           r (all_two _ _ _ (λ f (h : (site.number ≤ f.failure.site.number) × (f.failure.site.number ≡ site.number → HasCode f.failure.code (c ∷ cs))) (n : Absent site c.code f).
           let w : (site.number ≤ f.failure.site.number) × (f.failure.site.number ≡ site.number → HasCode f.failure.code cs) = (h.0, (λ p. ⊎_elim (λ d. absurd (n p d)) (λ k. k) (h.1 p))) in w) fs v gone) none
 
-  pub verdict : (N : ℕ) (s : State) (lo hi : ℕ) (gs : List Group) → s.tables ≡ ts → Tells N s lo hi gs fs → AllOf (λ g. InCodeOrder g.checks) gs → AllOf (λ g. AllOf (λ (c : Check). c.offset ≡ g.site.offset) g.checks) gs → Verdict R ts fs root (answer_from R ts (checks_of gs) root)
+  pub verdict : (N : ℕ) (s : State) (lo hi : ℕ) (gs : List Group) → s.tables ≡ ts → Tells N s lo hi gs fs → AllOf (λ g. InCodeOrder g.checks) gs → AllOf (λ g. AllOf (OfNode ss g.site) g.checks) gs → Verdict R ts fs root ss (answer_from R ts (checks_of gs) root)
   verdict N s lo hi [] e t o f = quiet t.0
   verdict N s lo hi (g ∷ gs) e t o f =
       walk g.site g.checks (checks_of gs) t.0 f.0 o.0 (all_mono _ _ (λ c (k : TellsOf N s lo g.site fs c). subst (λ us. (v : Cell → ℕ) → total v (first_cells (table_at us c.op)) ≡ total v (numbers_at g.site.number c.code fs)) e k.0) g.checks t.1)

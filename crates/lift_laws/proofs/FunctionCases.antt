@@ -35,7 +35,7 @@ use Rattle.lift_laws.proofs.Values.{flat_nil}
 use Rattle.lift_laws.proofs.Sizes.{size_loop, size_cells, total_most}
 use Rattle.lift_laws.proofs.Keeping.{grows_trans, holds_keep, holds_rows, makes_holds, small_less, small_keep, small_most, append_none}
 use Rattle.lift_laws.proofs.Simple.{literal_stands, empty_stands, either_stands}
-use Rattle.lift_laws.proofs.Marks.{Marks, marks_or, marks_is, marks_rows, unmarked_stands, marked_stands, some, fault_in, code_self, call_tells}
+use Rattle.lift_laws.proofs.Marks.{Marks, marks_or, marks_is, marks_rows, unmarked_stands, marked_stands, some, fault_in, code_self, rule_tells}
 use Rattle.lift_laws.proofs.Operands.{marks_any, marks_second, has_two}
 use Rattle.lift_laws.proofs.Cleared.{AllMark}
 use Rattle.lift_laws.proofs.Staged.{first_code, Staged, op_sizes, staged_call}
@@ -339,7 +339,7 @@ module _ (docs : Docs) where
         × (call_faults docs site (FailWith code) gs its ≡ [] → Holds s2 t three (value_rows (λ i. list_of (value_in (call_answer docs site (FailWith code) gs i))) its))
     failing N its gs asc hl hp =
         let there = holds_keep h.grows (holds_keep m.grows hl) in (
-          call_tells docs site (FailWith code) gs its N s s2 (all_fail ∷ []) (
+          rule_tells site (call_answer docs site (FailWith code) gs) its N s s2 (all_fail ∷ []) (
             (λ v. ap (λ cs. total v (map (cell bare cs (column 0)) (at s2 looped).rows)) there.cols_are
                 ∙ total-map v (cell bare single (column 0)) (at s2 looped).rows
                 ∙ there.rows_are.at (λ r. v (cell bare single (column 0) r))

@@ -118,7 +118,7 @@ module _ (docs : Docs) (texts : List Text) where
   abbrev R : Rules Cell
   R = item_rules docs texts
 
-  many : (g : Graph) → length (tables R g.ops) ≡ length g.ops
+  pub many : (g : Graph) → length (tables R g.ops) ≡ length g.ops
   many g = let h = tables_length R [] g.ops in omega arith
 
   -- a new operator

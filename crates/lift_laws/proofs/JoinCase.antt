@@ -109,7 +109,7 @@ out r = pick (columns (0 ∷ 1 ∷ 2 ∷ 4 ∷ 5 ∷ 3 ∷ [])) (pair 0 0 ∷ pa
 abbrev with_led : Row → List Row
 with_led r = map (λ v. r ++ v ∷ []) (given (bare.value f.Concat (turned_cells r)))
 
-abbrev beside_it : ℕ → Items → Row → List Row
+abbrev pub beside_it : ℕ → Items → Row → List Row
 beside_it n ss l = map (λ r. l ++ r) (map moved (item_rows n 1 ss))
 
 led_items : (n k : ℕ) (s : Cell) (us : Items) → map out (flat_map with_led (flat_map (beside_it n (s ∷ [])) (item_rows n k us))) ≡ item_rows n k (map (led s) us)
@@ -126,7 +126,7 @@ ones : (n k : ℕ) (us : Items) → total (λ (l : Row). 1 + 0) (item_rows n k u
 ones n k [] = refl
 ones n k (u ∷ us) = let e = ones n (k + 1) us in omega arith
 
-side_size : (b : Bool) (n : ℕ) (us ss : Items) → (b ≡ true → Single ss) → total (λ (r : Row). 1) (flat_map (beside_it n ss) (lefts b n us)) ≤ length us
+pub side_size : (b : Bool) (n : ℕ) (us ss : Items) → (b ≡ true → Single ss) → total (λ (r : Row). 1) (flat_map (beside_it n ss) (lefts b n us)) ≤ length us
 side_size true n us ss k =
     let s = k refl in
     let e = ap (λ x. total (λ (r : Row). 1) (flat_map (beside_it n x) (item_rows n 1 us))) s.1 ∙ total-flat (λ (r : Row). 1) (beside_it n (s.0 ∷ [])) (item_rows n 1 us) ∙ ones n 1 us in

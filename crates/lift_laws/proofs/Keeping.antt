@@ -4,6 +4,7 @@ use Rattle.std.specs.List.{filter}
 use Rattle.std.proofs.lemmas.Bool.{ne_eqb, eqb-true, ltb-true, ltb-false, and_parts}
 use Rattle.xq_base.specs.declared.code.Code.{Code}
 use Rattle.xq_base.specs.Answers.{Answer, Value, Fault as Refused}
+use Rattle.doc_table.proofs.Ascending.{in-left, in-right}
 use Rattle.doc_table.specs.Values.{Items}
 use Rattle.doc_table.specs.NodeRules.{Docs}
 use Rattle.plan_dag.specs.declared.cols.Col.{Col}
@@ -11,7 +12,7 @@ use Rattle.plan_dag.specs.declared.op.OpId.{OpId}
 use Rattle.plan_dag.specs.declared.check.Check.{Check}
 use Rattle.plan_dag.specs.ItemRules.{Cell}
 use Rattle.plan_dag.specs.Rows.{code_eq}
-use Rattle.core_meaning.specs.Expr.{Site, Rule, Expr, Exprs, Spine, Lit, Empty, Var, Seq, Let, For, If, Sorted, Call, no_more, one_more, Leaf, ForBind, LetBind, WhereBind}
+use Rattle.core_meaning.specs.Expr.{Site, Rule, Order, Expr, Exprs, Spine, Lit, Empty, Var, Seq, Let, For, If, Sorted, Call, no_more, one_more, Leaf, ForBind, LetBind, WhereBind}
 use Rattle.core_meaning.specs.Meaning.{vals, tuples}
 use Rattle.core_meaning.specs.Rules.{rule_answer}
 use Rattle.core_meaning.specs.Sorting.{sorted_answer}
@@ -23,7 +24,7 @@ use Rattle.lift_laws.specs.Iterations.{Row, Iter, num}
 use Rattle.lift_laws.specs.Bulk.{chosen, other, bound, inside, Step, Fault, fault, own_faults, faults, faults_all, faults_in}
 use Rattle.lift_laws.specs.Worlds.{World}
 use Rattle.lift_laws.specs.States.{State, StepAt, at, demand_at, IsIn, Small, Grows, Makes, Holds, StandsFor, HoldAll}
-use Rattle.lift_laws.specs.Lifting.{Group, Note, NoteStands, checks_of, numbers_at, first_cells, HasCode, TellsOf, Tells, PlacedCheck, PlacedIn, Chunk, NotedBy, Walked}
+use Rattle.lift_laws.specs.Lifting.{Group, Note, NoteStands, checks_of, numbers_at, first_cells, HasCode, TellsOf, Tells, PlacedCheck, PlacedIn, Chunk, SitedIn, NotedBy, Walked}
 use Rattle.lift_laws.proofs.Picks.{all_each, all_mono, all-append, all-flat, flat-append, map-append}
 use Rattle.lift_laws.proofs.Values.{all_two}
 
@@ -69,7 +70,7 @@ hold_all_keep (t ∷ ts) [] its g h = h
 hold_all_keep (t ∷ ts) (f ∷ gs) its g h = (holds_keep g h.0, hold_all_keep ts gs its g h.1)
 
 pub notes_keep : (docs : Docs) (W : World) {s s' : State} {new : List Check} (ms : List Note) → Grows s s' new → AllOf (NoteStands docs W s) ms → AllOf (NoteStands docs W s') ms
-notes_keep docs W {s = s} {s' = s'} ms g a = all_mono _ _ (λ m (h : NoteStands docs W s m). let r : NoteStands docs W s' m = (hold_all_keep m.ops _ _ g h.0, h.1) in r) ms a
+notes_keep docs W {s = s} {s' = s'} ms g a = all_mono _ _ (λ m (h : NoteStands docs W s m). let r : NoteStands docs W s' m = (hold_all_keep m.ops _ _ g h.0, h.1, h.2) in r) ms a
 
 -- demands
 pub small_none : {s : State} (lo N : ℕ) → Small s lo lo N
@@ -229,6 +230,12 @@ module _ (docs : Docs) where
       let e = eqb-true site.number (n + nodes_all es) (and_parts (nat_eq site.number (n + nodes_all es)) (sited_all n es) z).0 in
       call_from (n + nodes_all es) (Call site r es) its (λ i. some_from (n + nodes_all es) site i.vector i.number (vals docs es i.env i.vector) (rule_answer docs site i.vector r) (omega arith))
 
+  -- and so are those of a sorted loop
+  pub sorted_from : (n : ℕ) (site : Site) (os : List Order) (sp : Spine) (its : List Iter) → is_sited n (Sorted site os sp) ≡ true → AllOf (From (n + nodes_in sp)) (own_faults docs (Sorted site os sp) its)
+  sorted_from n site os sp its z =
+      let e = eqb-true site.number (n + nodes_in sp) (and_parts (nat_eq site.number (n + nodes_in sp)) (sited_in n sp) z).0 in
+      call_from (n + nodes_in sp) (Sorted site os sp) its (λ i. some_from (n + nodes_in sp) site i.vector i.number (tuples docs sp i.env i.vector) (sorted_answer os) (omega arith))
+
 -- stretches of checks
 abbrev pub chunk_none : {s s' : State} (lo hi : ℕ) → Grows s s' [] → Chunk s s' lo hi
 chunk_none lo hi g = record { groups = []; notes = []; grows = g; placed = tt; coded = tt }
@@ -256,6 +263,11 @@ chunk_makes {s = s} {s1 = s1} {s2 = s2} lo hi hi' h a g = record {
   placed = placed_up s1 s2 lo hi lo hi' a.groups (omega arith) h g.longer a.placed;
   coded = a.coded;
 }
+
+-- the nodes of two parts
+pub sited_then : (ss rs : List Site) (aa bs : List Group) → AllOf (SitedIn ss) aa → AllOf (SitedIn rs) bs → AllOf (SitedIn (ss ++ rs)) (aa ++ bs)
+sited_then ss rs aa bs a b =
+    all-append _ aa bs (all_mono _ _ (λ g (h : SitedIn ss g). in-left g.site ss rs h) aa a) (all_mono _ _ (λ g (h : SitedIn rs g). in-right g.site ss rs h) bs b)
 
 -- step operators
 pub walked_quiet : {s s' : State} → s'.steps ≡ s.steps → Walked s s' [] []

@@ -81,6 +81,11 @@ module _ (f : Iter → List Cell) where
   values_in_row n (i ∷ its) a =
       items_then i.number 1 (f i) (value_rows f its) (λ k v. values_after i.number k v i.number its (omega arith) a.1) (values_in_row i.number its a.1)
 
+-- what doesn't ask for the number
+pub given_flat : {A : Type 0} (h : Turn → List A) → ((t : Turn) (n : ℕ) → h (turn n t.outer t.place t.item) ≡ h t) → (n : ℕ) (ts : List Turn) → flat_map h (given n ts) ≡ flat_map h ts
+given_flat h e n [] = refl
+given_flat h e n (t ∷ ts) = let a = e t n in let b = given_flat h e (n + 1) ts in cc
+
 module _ (f : Iter → Items) where
   pub turns_outer : (P : Iter → Type 0) (i : Iter) (k : ℕ) (vs : Items) → P i → AllOf (λ t. P t.outer) (turns_of i k vs)
   turns_outer P i k [] h = tt
@@ -98,10 +103,6 @@ module _ (f : Iter → Items) where
   pub given_ascends : (n : ℕ) (ts : List Turn) → Ascends (λ t. t.number) n (given (n + 1) ts)
   given_ascends n [] = tt
   given_ascends n (t ∷ ts) = (omega arith, given_ascends (n + 1) ts)
-
-  given_flat : (h : Turn → List Row) → ((t : Turn) (n : ℕ) → h (turn n t.outer t.place t.item) ≡ h t) → (n : ℕ) (ts : List Turn) → flat_map h (given n ts) ≡ flat_map h ts
-  given_flat h e n [] = refl
-  given_flat h e n (t ∷ ts) = let a = e t n in let b = given_flat h e (n + 1) ts in cc
 
 -- the turns as rows, with cells for their items
 cell_turns : (c : Item Text → Cell) (i : Iter) (k : ℕ) (vs : Items) → item_rows i.number k (map c vs) ≡ map (λ t. vrow t.outer.number t.place (c t.item)) (turns_of i k vs)
@@ -178,7 +179,7 @@ into_stands c f g its m v a s e =
     ∙ flat-all _ _ (turns f its) (all_each _ (λ t. map-map out (λ r. side t ++ r) (item_rows t.outer.number 1 (g t.outer)) ∙ into_items t.number t.outer.number 1 (g t.outer)) (turns f its))))
 
 -- the values of the turns become those of the iterations
-back_items : (n o p k : ℕ) (vs : List Cell) → map (λ r. pick (columns (4 ∷ 5 ∷ 6 ∷ 0 ∷ 1 ∷ 2 ∷ [])) (pair 0 5 ∷ pair 1 1 ∷ pair 2 2 ∷ pair 3 6 ∷ []) ((num n ∷ num o ∷ num p ∷ []) ++ r)) (item_rows n k vs) ≡ tagged o p k vs
+pub back_items : (n o p k : ℕ) (vs : List Cell) → map (λ r. pick (columns (4 ∷ 5 ∷ 6 ∷ 0 ∷ 1 ∷ 2 ∷ [])) (pair 0 5 ∷ pair 1 1 ∷ pair 2 2 ∷ pair 3 6 ∷ []) ((num n ∷ num o ∷ num p ∷ []) ++ r)) (item_rows n k vs) ≡ tagged o p k vs
 back_items n o p k [] = refl
 back_items n o p k (v ∷ vs) = ap (λ l. (num o ∷ num k ∷ v ∷ num p ∷ []) ∷ l) (back_items n o p (k + 1) vs)
 
@@ -200,7 +201,7 @@ back_stands c f h its m t a s e =
     let moved = same-map out (same-trans (same-join (columns (4 ∷ 5 ∷ 6 ∷ [])) three (column 4) (column 0) left e) joins) in
     let flat = map-flat out (λ u. map (λ r. side u ++ r) (item_rows u.number 1 (val u))) ts
     ∙ flat-all _ tags ts (all_each _ (λ u. map-map out (λ r. side u ++ r) (item_rows u.number 1 (val u)) ∙ back_items u.number u.outer.number u.place 1 (val u)) ts)
-    ∙ given_flat f tags (λ u n. refl) 1 (all_turns f its)
+    ∙ given_flat tags (λ u n. refl) 1 (all_turns f its)
     ∙ flat-flat tags (λ i. turns_of i 1 (f i)) its
     ∙ flat-all _ (λ i. grid i.number 1 (bodies h i 1 (f i))) its (all_each _ (λ i. turns_grid h i 1 (f i)) its) in
     regroup (λ i. i.number) (λ i. bodies h i 1 (f i)) its _ (picks (λ i. i.number) 0 its a) (same-trans moved (same-of flat))

@@ -1,4 +1,4 @@
--- Iterations that rows name, joins by iteration, and the checks of a call's own rule: what every lifted call uses.
+-- Iterations that rows name, joins by iteration, and the checks of a node's own rule: what every lifted call uses.
 use Rattle.std.proofs.Common.{◌≡◌, ℕ, ◌+◌, ◌≤◌, Bool, true, false, cond, not, ◌&&◌, ◌||◌, List, [], ◌∷◌, ◌++◌, length, map, refl, sym, ap, ◌∙◌, ⊎_elim, arith, add-zero, zero-add, nat_eq, nat_lt, Option, Some, None}
 use Rattle.std.proofs.Math.Bool.{not-not, or_assoc}
 use Rattle.std.specs.List.{filter, flat_map}
@@ -7,19 +7,18 @@ use Rattle.xq_base.specs.declared.code.Code.{Code}
 use Rattle.xq_base.specs.contracts.code.Code.{the_type}
 use Rattle.xq_base.specs.Answers.{Answer, Value, Fault as Refused}
 use Rattle.doc_table.specs.Values.{Items}
-use Rattle.doc_table.specs.NodeRules.{Docs}
 use Rattle.plan_dag.specs.declared.check.Check.{Check}
 use Rattle.plan_dag.specs.ItemRules.{Cell, cell_eq}
 use Rattle.plan_dag.specs.Meaning.{cell}
 use Rattle.plan_dag.specs.Rows.{joined, code_eq}
-use Rattle.core_meaning.specs.Expr.{Site, Rule}
+use Rattle.core_meaning.specs.Expr.{Site}
 use Rattle.core_meaning.specs.Failures.{failure, faults_of}
 use Rattle.lift_laws.specs.Sums.{total, bit, AllOf, Ascends, Same}
 use Rattle.lift_laws.specs.Iterations.{Row, Iter, num, loop_rows}
 use Rattle.lift_laws.specs.Bulk.{Fault, fault}
 use Rattle.lift_laws.specs.States.{State, at, Small, column, single}
 use Rattle.lift_laws.specs.Shapes.{bare, less, beside, other_rows, named_rows}
-use Rattle.lift_laws.specs.Lifting.{numbers_at, first_cells, HasCode, TellsOf, Tells, call_answer, call_faults}
+use Rattle.lift_laws.specs.Lifting.{numbers_at, first_cells, HasCode, TellsOf, Tells}
 use Rattle.lift_laws.proofs.Numbers.{num_same, nat_eq_self, num_is}
 use Rattle.lift_laws.proofs.Multi.{same-of, same-trans, same-keep, total-ext, total-map, total-flat, total-keep}
 use Rattle.lift_laws.proofs.Picks.{Picked, picks, all_each, all_mono, all-flat, total-all}
@@ -204,15 +203,13 @@ code_apart c d ne = false_same the_type tt c d ne
 abbrev pub Nowhere : Code → Fault → Type 0
 Nowhere c f = f.failure.code ≡ c → ⊥
 
-module _ (docs : Docs) (site : Site) (r : Rule) (gs : List (Iter → List Cell)) (its : List Iter) where
-  abbrev fs : List Fault
-  fs = call_faults docs site r gs its
-
-  abbrev answer : Iter → Answer Items
-  answer i = call_answer docs site r gs i
-
+-- the failures of a rule that gives an answer in each iteration
+module _ (site : Site) (answer : Iter → Answer Items) (its : List Iter) where
   abbrev report : Iter → Answer Items → List Fault
   report i x = map (fault i.number) (faults_of x (failure site i.vector))
+
+  abbrev fs : List Fault
+  fs = flat_map (λ i. report i (answer i)) its
 
   -- the numbers of one check, counted by iterations
   pub numbers_total : (c : Code) (v : Cell → ℕ) → total v (numbers_at site.number c fs) ≡ total (λ i. weigh c v i.number (fault_in (answer i))) its
@@ -266,7 +263,7 @@ module _ (docs : Docs) (site : Site) (r : Rule) (gs : List (Iter → List Cell))
       go [] k b = k
       go (d ∷ ds) k b = ⊎_elim (λ e. b.0.0 e) (λ j. go ds j b.1) k
 
-  -- the checks of one call: each exact, each failure's code among them, each small
+  -- the checks of the rule: each exact, each failure's code among them, each small
   module _ (N : ℕ) (s s' : State) (cs : List Check)
       (exact : AllOf (λ (c : Check). (v : Cell → ℕ) → total v (first_cells (at s' c.op)) ≡ total (λ i. weigh c.code v i.number (fault_in (answer i))) its) cs)
       (coded : AllOf (λ i. CodeIn (fault_in (answer i)) cs) its)
@@ -282,8 +279,8 @@ module _ (docs : Docs) (site : Site) (r : Rule) (gs : List (Iter → List Cell))
         absent c.code fs (all_mono _ _ (λ x (k : Here cs x). let q : x.failure.site.number ≡ site.number = k.0 in q) fs (here cs coded))
         (sym (h (λ x. 1)) ∙ ap (λ rs. total (λ (x : Cell). 1) (map (cell bare (at s' c.op).cols (column 0)) rs)) e)) cs exacts z)
 
-    pub call_tells : (fs ≡ [] → Small s' (length s.tables) (length s'.tables) N) → Tells N s' (length s.tables) (length s'.tables) (record { site = site; checks = cs } ∷ []) fs
-    call_tells small = (
+    pub rule_tells : (fs ≡ [] → Small s' (length s.tables) (length s'.tables) N) → Tells N s' (length s.tables) (length s'.tables) (record { site = site; checks = cs } ∷ []) fs
+    rule_tells small = (
       all_mono _ _ (λ x (h : Here cs x). let e = h.0 in let r : (site.number ≤ x.failure.site.number) × (x.failure.site.number ≡ site.number → HasCode x.failure.code cs) = (omega arith, (λ d. h.1)) in r) fs (here cs coded),
       all_two _ _ _ (λ (c : Check) (h : Exact c) (k : Small s' (length s.tables) (c.op.0 + 1) N). let r : TellsOf N s' (length s.tables) site fs c = (h, k) in r) cs exacts few,
       (λ z. let e = still z in (e, small e)),

@@ -5,6 +5,7 @@ use Rattle.std.specs.List.{filter, flat_map, list_any}
 use Rattle.std.specs.Cmp.{IsEquivalence}
 use Rattle.std.proofs.lemmas.Bool.{and_parts, lt-ltb}
 use Rattle.xq_base.specs.declared.code.Code.TheVariants as c
+use Rattle.xq_base.specs.declared.fun.Fun.{Fun}
 use Rattle.xq_base.specs.declared.fun.Fun.TheVariants as f
 use Rattle.xq_base.specs.Answers.{Answer, Value, Fault as Refused, with_value, both_of}
 use Rattle.xq_base.specs.Texts.{Text}
@@ -26,12 +27,12 @@ use Rattle.core_meaning.specs.Expr.{Site, Apply}
 use Rattle.core_meaning.specs.Meaning.{value_in}
 use Rattle.lift_laws.specs.Sums.{total, AllOf, Ascends, Same}
 use Rattle.lift_laws.specs.Iterations.{Row, Iter, num, item_rows, value_rows}
-use Rattle.lift_laws.specs.Bulk.{list_of}
+use Rattle.lift_laws.specs.Bulk.{list_of, own_walks}
 use Rattle.lift_laws.specs.States.{State, at, Makes, column, three}
 use Rattle.lift_laws.specs.Shapes.{bare, pair, pick, project, four, beside}
 use Rattle.lift_laws.specs.Stages.{Stages}
 use Rattle.lift_laws.specs.Walks.{node_cols, each_once_rows, stray_rows, union_rows, union_marks, named_nodes, path_rows, path_marks}
-use Rattle.lift_laws.specs.Lifting.{Rooted, CallLifts}
+use Rattle.lift_laws.specs.Lifting.{Rooted, CallLifts, call_answer}
 use Rattle.lift_laws.proofs.Multi.{same-of, same-trans, same-map, same-flat, same-keep, same-append, same-split}
 use Rattle.lift_laws.proofs.Picks.{all_each, all_mono, all-append, all-map, flat-all, flat-flat, map-append, map-flat}
 use Rattle.lift_laws.proofs.Values.{all_two}
@@ -49,16 +50,16 @@ use Rattle.lift_laws.proofs.NodeOrder.{node_row, order_stands}
 use Rattle.lift_laws.proofs.WalkCase.{tail_count, head_one, nodes_rooted, strays_are}
 
 -- rows are the same where iteration and node are
-abbrev number_in : Row → Cell
+abbrev pub number_in : Row → Cell
 number_in r = cell bare node_cols (column 0) r
 
-abbrev node_in : Row → Cell
+abbrev pub node_in : Row → Cell
 node_in r = cell bare node_cols (column 2) r
 
-abbrev row_eq : Row → Row → Bool
+abbrev pub row_eq : Row → Row → Bool
 row_eq q r = cell_eq (number_in q) (number_in r) && (cell_eq (node_in q) (node_in r) && true)
 
-rows_equal : IsEquivalence row_eq
+pub rows_equal : IsEquivalence row_eq
 rows_equal = record {
   refl = λ q. ap (λ b. b && (cell_eq (node_in q) (node_in q) && true)) (cells_equal.refl (number_in q)) ∙ ap (λ b. b && true) (cells_equal.refl (node_in q));
   symm = λ q r. ap (λ b. b && (cell_eq (node_in q) (node_in r) && true)) (cells_equal.symm (number_in q) (number_in r)) ∙ ap (λ b. cell_eq (number_in r) (number_in q) && (b && true)) (cells_equal.symm (node_in q) (node_in r));
@@ -68,16 +69,16 @@ rows_equal = record {
       ∙ ap (λ b. cell_eq (number_in r) (number_in x) && (b && true)) (cells_equal.congr (node_in q) (node_in r) (node_in x) (sym (and-true (cell_eq (node_in q) (node_in r))) ∙ k.1));
 }
 
-abbrev canon : (TreeId → Option (Tree Text)) → Row → Row
+abbrev pub canon : (TreeId → Option (Tree Text)) → Row → Row
 canon tree r = number_of (number_in r) ∷ node_with tree (node_in r) ∷ []
 
-canon_same : (tree : TreeId → Option (Tree Text)) (q r : Row) → row_eq q r ≡ true → canon tree q ≡ canon tree r
+pub canon_same : (tree : TreeId → Option (Tree Text)) (q r : Row) → row_eq q r ≡ true → canon tree q ≡ canon tree r
 canon_same tree q r e =
     let k = and_parts (cell_eq (number_in q) (number_in r)) (cell_eq (node_in q) (node_in r) && true) e in
     ap (λ v. v ∷ node_with tree (node_in q) ∷ []) (number_same (number_in q) (number_in r) k.0)
     ∙ ap (λ v. number_of (number_in r) ∷ v ∷ []) (node_same tree (node_in q) (node_in r) (sym (and-true (cell_eq (node_in q) (node_in r))) ∙ k.1))
 
-known_rows : (tree : TreeId → Option (Tree Text)) (ms : List (Node Text)) → AllOf (λ (m : Node Text). Rooted tree (NodeItem m)) ms → AllOf (λ (m : Node Text). (n : ℕ) → canon tree (node_row n m) ≡ node_row n m) ms
+pub known_rows : (tree : TreeId → Option (Tree Text)) (ms : List (Node Text)) → AllOf (λ (m : Node Text). Rooted tree (NodeItem m)) ms → AllOf (λ (m : Node Text). (n : ℕ) → canon tree (node_row n m) ≡ node_row n m) ms
 known_rows tree [] h = tt
 known_rows tree (m ∷ ms) h = ((λ n. ap (λ v. num n ∷ v ∷ []) (known_node tree m h.0.0)), known_rows tree ms h.1)
 
@@ -92,7 +93,7 @@ each_once_stands tree ns its rs asc s rooted =
     (all_mono _ _ (λ i (k : AllOf (λ (m : Node Text). Rooted tree (NodeItem m)) (ns i)). known_rows tree (ns i) k) its rooted))
 
 -- unions
-abbrev both_nodes : Row → Row
+abbrev pub both_nodes : Row → Row
 both_nodes r = pick three (pair 0 0 ∷ pair 2 2 ∷ []) r
 
 pairs_at : (n k : ℕ) (vs : Items) → all_nodes vs ≡ true → map both_nodes (item_rows n k vs) ≡ map (node_row n) (nodes_in vs)
@@ -107,7 +108,7 @@ same_rows : (n : ℕ) (ms : List (Node Text)) → map (λ r. cells_at bare node_
 same_rows n [] = refl
 same_rows n (m ∷ ms) = ap (λ l. (num n ∷ NodeItem m ∷ []) ∷ l) (same_rows n ms)
 
-pairs_stand : (h : Iter → List Cell) (its : List Iter) (a : List Row) → Same a (value_rows h its) → AllOf (λ i. all_nodes (h i) ≡ true) its → Same (project three (pair 0 0 ∷ pair 2 2 ∷ []) a) (flat_map (λ i. map (node_row i.number) (nodes_in (h i))) its)
+pub pairs_stand : (h : Iter → List Cell) (its : List Iter) (a : List Row) → Same a (value_rows h its) → AllOf (λ i. all_nodes (h i) ≡ true) its → Same (project three (pair 0 0 ∷ pair 2 2 ∷ []) a) (flat_map (λ i. map (node_row i.number) (nodes_in (h i))) its)
 pairs_stand h its a s alone =
     same-trans (same-map both_nodes s) (same-of (map-flat both_nodes (λ i. item_rows i.number 1 (h i)) its ∙ flat-all _ _ its (all_mono _ _ (λ i (e : all_nodes (h i) ≡ true). pairs_at i.number 1 (h i) e) its alone)))
 
@@ -120,56 +121,70 @@ both_stand h k its a b sa sb ha hb =
     (same-trans (same-split (λ i. map (node_row i.number) (nodes_in (h i))) (λ i. map (node_row i.number) (nodes_in (k i))) its)
     (same-of (flat-all _ _ its (all_each _ (λ i. sym (map-append (node_row i.number) (nodes_in (h i)) (nodes_in (k i)))) its))))
 
-abbrev stray : Items → Bool
+abbrev pub stray : Items → Bool
 stray vs = list_any (fails_at f.Name c.XPTY0004) vs
 
-abbrev union_answer : Items → Items → Answer Items
-union_answer us vs = node_set (λ ms ns. ms ++ ns) us vs
+-- a set of nodes of both operands, which are nodes
+abbrev pub SetOf : Type 0
+SetOf = List (Node Text) → List (Node Text) → List (Node Text)
 
-abbrev union_of : Items → Items → Bool → Bool → Answer Items
-union_of us vs p q = with_value (λ (x : List (Node Text) × List (Node Text)). items_at (in_document_order (x.0 ++ x.1))) (both_of (cond p (Value (nodes_in us)) (Refused c.XPTY0004)) (cond q (Value (nodes_in vs)) (Refused c.XPTY0004)))
+abbrev set_of : SetOf → Items → Items → Bool → Bool → Answer Items
+set_of g us vs p q = with_value (λ (x : List (Node Text) × List (Node Text)). items_at (in_document_order (g x.0 x.1))) (both_of (cond p (Value (nodes_in us)) (Refused c.XPTY0004)) (cond q (Value (nodes_in vs)) (Refused c.XPTY0004)))
 
-union_fault : (us vs : Items) → fault_in (union_answer us vs) ≡ cond (not (not (stray us) && (not (stray vs) && true))) (Some c.XPTY0004) None
-union_fault us vs =
+pub set_fault : (g : SetOf) (us vs : Items) → fault_in (node_set g us vs) ≡ cond (not (not (stray us) && (not (stray vs) && true))) (Some c.XPTY0004) None
+set_fault g us vs =
     go (all_nodes us) (all_nodes vs)
     ∙ ap (λ b. cond (not (not b && (not (not (all_nodes vs)) && true))) (Some c.XPTY0004) None) (sym (strays_are us)) ∙ ap (λ b. cond (not (not (stray us) && (not b && true))) (Some c.XPTY0004) None) (sym (strays_are vs))
   where
-    go : (p q : Bool) → fault_in (union_of us vs p q) ≡ cond (not (not (not p) && (not (not q) && true))) (Some c.XPTY0004) None
+    go : (p q : Bool) → fault_in (set_of g us vs p q) ≡ cond (not (not (not p) && (not (not q) && true))) (Some c.XPTY0004) None
     go true true = refl
     go true false = refl
     go false true = refl
     go false false = refl
 
-union_calm : (us vs : Items) → fault_in (union_answer us vs) ≡ None → (all_nodes us ≡ true) × (all_nodes vs ≡ true) × (items_at (in_document_order (nodes_in us ++ nodes_in vs)) ≡ list_of (value_in (union_answer us vs)))
-union_calm us vs e = go (all_nodes us) (all_nodes vs) e
+pub set_calm : (g : SetOf) (us vs : Items) → fault_in (node_set g us vs) ≡ None → (all_nodes us ≡ true) × (all_nodes vs ≡ true) × (items_at (in_document_order (g (nodes_in us) (nodes_in vs))) ≡ list_of (value_in (node_set g us vs)))
+set_calm g us vs e = go (all_nodes us) (all_nodes vs) e
   where
-    go : (p q : Bool) → fault_in (union_of us vs p q) ≡ None → (p ≡ true) × (q ≡ true) × (items_at (in_document_order (nodes_in us ++ nodes_in vs)) ≡ list_of (value_in (union_of us vs p q)))
+    go : (p q : Bool) → fault_in (set_of g us vs p q) ≡ None → (p ≡ true) × (q ≡ true) × (items_at (in_document_order (g (nodes_in us) (nodes_in vs))) ≡ list_of (value_in (set_of g us vs p q)))
     go true true e = (refl, refl, refl)
     go true false e = cc
     go false true e = cc
     go false false e = cc
+
+-- a call of such a function: its rows are those sets in all iterations, and the check is that of items that are no nodes
+module _ (docs : Docs) (s s1 s2 : State) (site : Site) (fun : Fun) (g : SetOf) (looped a b t : OpId) (cs : List Check) (rows : List Row)
+    (m : Makes s s1 t three rows (length (at s looped).rows + length (at s a).rows + length (at s b).rows))
+    (st : Stages site (length (at s looped).rows + length (at s a).rows + length (at s b).rows) s1 s2 (at s looped).rows (union_marks (at s looped).rows (at s a).rows (at s b).rows) cs)
+    (no_step : own_walks site (Apply fun) ≡ []) (rule_is : (h k : Iter → List Cell) (i : Iter) → call_answer docs site (Apply fun) (h ∷ k ∷ []) i ≡ node_set g (h i) (k i))
+    (stands : (tree : TreeId → Option (Tree Text)) (its : List Iter) (h k : Iter → List Cell) → Ascends (λ i. i.number) 0 its → Same (at s a).rows (value_rows h its) → Same (at s b).rows (value_rows k its)
+    → AllOf (λ i. AllOf (Rooted tree) (h i)) its → AllOf (λ i. AllOf (Rooted tree) (k i)) its → AllOf (λ i. all_nodes (h i) ≡ true) its → AllOf (λ i. all_nodes (k i) ≡ true) its
+    → Same rows (value_rows (λ i. items_at (in_document_order (g (nodes_in (h i)) (nodes_in (k i))))) its)) where
+  abbrev tests : (Iter → List Cell) → (Iter → List Cell) → List (Iter → Bool)
+  tests h k = (λ i. not (not (stray (h i)) && (not (stray (k i)) && true))) ∷ []
+
+  pub set_call : CallLifts docs s s2 site (Apply fun) looped (a ∷ b ∷ []) t
+  set_call =
+      stages_two docs s s1 s2 site (Apply fun) looped a b t cs (union_marks (at s looped).rows (at s a).rows (at s b).rows) [] tests no_step (tt, tt) (refl, tt) _ _ _ m st
+      (λ N l w. (l, l)) (node_set g) rule_is (λ h k i. set_fault g (h i) (k i))
+      (λ its h k asc sl sa sb. (
+        marks_gathered (stray_rows (at s a).rows ∷ stray_rows (at s b).rows ∷ []) ((λ i. stray (h i)) ∷ (λ i. stray (k i)) ∷ []) its _ asc sl (marks_fail f.Name c.XPTY0004 h its _ asc sa, (marks_fail f.Name c.XPTY0004 k its _ asc sb, tt)),
+        tt,
+      ))
+      (λ its h k asc sl sa sb. tt)
+      (λ its h k asc sl sa sb tree ra rb calm.
+      same-trans
+      (stands tree its h k asc sa sb ra rb (all_mono _ _ (λ i (e : fault_in (node_set g (h i) (k i)) ≡ None). (set_calm g (h i) (k i) e).0) its calm) (all_mono _ _ (λ i (e : fault_in (node_set g (h i) (k i)) ≡ None). (set_calm g (h i) (k i) e).1) its calm))
+      (same-of (flat-all _ _ its (all_mono _ _ (λ i (e : fault_in (node_set g (h i) (k i)) ≡ None). ap (item_rows i.number 1) (set_calm g (h i) (k i) e).2) its calm))))
 
 pub union_call : (docs : Docs) (s s1 s2 : State) (site : Site) (looped a b t : OpId) (cs : List Check)
     → Makes s s1 t three (union_rows (at s a).rows (at s b).rows) (length (at s looped).rows + length (at s a).rows + length (at s b).rows)
     → Stages site (length (at s looped).rows + length (at s a).rows + length (at s b).rows) s1 s2 (at s looped).rows (union_marks (at s looped).rows (at s a).rows (at s b).rows) cs
     → CallLifts docs s s2 site (Apply f.Union) looped (a ∷ b ∷ []) t
 union_call docs s s1 s2 site looped a b t cs m st =
-    stages_two docs s s1 s2 site (Apply f.Union) looped a b t cs (union_marks (at s looped).rows (at s a).rows (at s b).rows) [] tests refl (tt, tt) (refl, tt) _ _ _ m st
-    (λ N l w. (l, l)) union_answer (λ h k i. refl) (λ h k i. union_fault (h i) (k i))
-    (λ its h k asc sl sa sb. (
-      marks_gathered (stray_rows (at s a).rows ∷ stray_rows (at s b).rows ∷ []) ((λ i. stray (h i)) ∷ (λ i. stray (k i)) ∷ []) its _ asc sl (marks_fail f.Name c.XPTY0004 h its _ asc sa, (marks_fail f.Name c.XPTY0004 k its _ asc sb, tt)),
-      tt,
-    ))
-    (λ its h k asc sl sa sb. tt)
-    (λ its h k asc sl sa sb tree ra rb calm.
-    same-trans
-    (each_once_stands tree (λ i. nodes_in (h i) ++ nodes_in (k i)) its _ asc
-    (both_stand h k its _ _ sa sb (all_mono _ _ (λ i (e : fault_in (union_answer (h i) (k i)) ≡ None). (union_calm (h i) (k i) e).0) its calm) (all_mono _ _ (λ i (e : fault_in (union_answer (h i) (k i)) ≡ None). (union_calm (h i) (k i) e).1) its calm))
+    set_call docs s s1 s2 site f.Union (λ ms ns. ms ++ ns) looped a b t cs _ m st refl (λ h k i. refl)
+    (λ tree its h k asc sa sb ra rb ha hb.
+    each_once_stands tree (λ i. nodes_in (h i) ++ nodes_in (k i)) its _ asc (both_stand h k its _ _ sa sb ha hb)
     (all_two _ _ _ (λ i (p : AllOf (Rooted tree) (h i)) (q : AllOf (Rooted tree) (k i)). all-append _ (nodes_in (h i)) (nodes_in (k i)) (nodes_rooted tree (h i) p) (nodes_rooted tree (k i) q)) its ra rb))
-    (same-of (flat-all _ _ its (all_mono _ _ (λ i (e : fault_in (union_answer (h i) (k i)) ≡ None). ap (item_rows i.number 1) (union_calm (h i) (k i) e).2) its calm))))
-  where
-    tests : (Iter → List Cell) → (Iter → List Cell) → List (Iter → Bool)
-    tests h k = (λ i. not (not (stray (h i)) && (not (stray (k i)) && true))) ∷ []
 
 -- results of paths
 abbrev with_name : Row → List Row

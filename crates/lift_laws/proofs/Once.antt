@@ -26,13 +26,13 @@ one_of n true p q = p
 one_of n false p q = absurd (true≢false (sym q ∙ ap (nat_lt 0) p))
 
 module _ {A : Type 0} (less eq : A → A → Bool) where
-  put_total : (w : A → ℕ) (x : A) (ys : List A) → total w (put less x ys) ≡ w x + total w ys
+  pub put_total : (w : A → ℕ) (x : A) (ys : List A) → total w (put less x ys) ≡ w x + total w ys
   put_total w x [] = refl
   put_total w x (y ∷ ys) =
       let r = put_total w x ys in
       elim (less y x) as (λ b. total w (cond b (y ∷ put less x ys) (x ∷ y ∷ ys)) ≡ w x + (w y + total w ys)) [ true ↦ omega arith | false ↦ refl ]
 
-  put_all : (P : A → Type 0) (x : A) (ys : List A) → P x → AllOf P ys → AllOf P (put less x ys)
+  pub put_all : (P : A → Type 0) (x : A) (ys : List A) → P x → AllOf P ys → AllOf P (put less x ys)
   put_all P x [] h a = (h, tt)
   put_all P x (y ∷ ys) h a =
       let r = put_all P x ys h a.1 in

@@ -9,13 +9,12 @@ use Rattle.doc_table.specs.Values.{kind_of_item}
 use Rattle.plan_dag.specs.declared.cols.Col.{Col}
 use Rattle.plan_dag.specs.Cells.{given}
 use Rattle.plan_dag.specs.ItemRules.{Cell, cell_eq, is_true}
-use Rattle.plan_dag.specs.Rows.{map_rows}
 use Rattle.plan_dag.specs.Meaning.{cell}
 use Rattle.plan_dag.specs.Meaning.{cells as cells_at}
 use Rattle.lift_laws.specs.Sums.{total, Ascends, Same}
 use Rattle.lift_laws.specs.Iterations.{Row, Iter, num, item_rows, value_rows}
 use Rattle.lift_laws.specs.States.{column, three}
-use Rattle.lift_laws.specs.Shapes.{bare, pair, pick, project, four, head_rows, second_rows}
+use Rattle.lift_laws.specs.Shapes.{bare, pair, pick, project, four, head_rows, second_rows, kind_rows}
 use Rattle.lift_laws.proofs.Numbers.{num_same}
 use Rattle.lift_laws.proofs.Multi.{same-of, same-trans, same-keep, same-map, total-ext, total-map, total-flat, total-keep}
 use Rattle.lift_laws.proofs.Picks.{all_each, all-map, flat-all, map-flat}
@@ -119,9 +118,6 @@ marks_items t test same g its a asc s =
 -- those that have an item of a kind
 abbrev pub is_kind : ItemKind → Cell → Bool
 is_kind kind v = item_kind_eq kind (kind_of_item v)
-
-abbrev pub kind_rows : ItemKind → List Row → List Row
-kind_rows kind a = project four (pair 0 0 ∷ []) (filter (λ r. is_true (cell bare four (column 3) r)) (map_rows bare (f'.IsKind kind) (cells_at bare three (column 2 ∷ [])) a))
 
 abbrev with_kind : ItemKind → Row → List Row
 with_kind kind r = map (λ v. r ++ v ∷ []) (given (bare.value (f'.IsKind kind) (cells_at bare three (column 2 ∷ []) r)))

@@ -1,5 +1,5 @@
 -- The functions that give nothing where an operand is absent: arithmetic, and comparisons of values, of nodes and of texts.
-use Rattle.std.proofs.Common.{◌≡◌, ◌+◌, Bool, true, false, cond, List, [], ◌∷◌, map, refl, ap, ◌∙◌, inl, inr, arith, ℤ, ◌+ℤ◌, ◌-ℤ◌, ◌*ℤ◌, int_div, int_rem, Option, Some, None}
+use Rattle.std.proofs.Common.{◌≡◌, Bool, true, false, cond, List, [], ◌∷◌, map, refl, ap, ◌∙◌, inl, inr, arith, ℤ, ◌+ℤ◌, ◌-ℤ◌, ◌*ℤ◌, int_div, int_rem, Option, Some, None}
 use Rattle.xq_base.specs.declared.code.Code.TheVariants as c
 use Rattle.xq_base.specs.declared.fun.Fun.{Fun}
 use Rattle.xq_base.specs.declared.fun.Fun.TheVariants as f

@@ -260,10 +260,10 @@ module _ (g : Fun) (r t : Reading) (single_r : (vs : Items) → fault_in (read_a
     rows l a b d = third_rows (sided l a b d) d
 
     module _ (its : List Iter) (h k j : Iter → List Cell) (l a b d : List Row) (asc : Ascends (λ i. i.number) 0 its) (sl : Same l (loop_rows its)) (sa : Same a (value_rows h its)) (sb : Same b (value_rows k its)) (sd : Same d (value_rows j its)) where
-      trio_marked : AllMark (marked_rows (marks l a b d)) (operand_tests (operands a b d) (h ∷ k ∷ j ∷ [])) its
+      pub trio_marked : AllMark (marked_rows (marks l a b d)) (operand_tests (operands a b d) (h ∷ k ∷ j ∷ [])) its
       trio_marked = operands_mark its l asc sl (operands a b d) (h ∷ k ∷ j ∷ []) (sa, (sb, (sd, tt)))
 
-      trio_fault : (i : Iter) → fault_in (answer (h i) (k i) (j i)) ≡ first_coded (map first_mark (marks l a b d)) (operand_tests (operands a b d) (h ∷ k ∷ j ∷ [])) i
+      pub trio_fault : (i : Iter) → fault_in (answer (h i) (k i) (j i)) ≡ first_coded (map first_mark (marks l a b d)) (operand_tests (operands a b d) (h ∷ k ∷ j ∷ [])) i
       trio_fault i =
           inner_fault F (both_of (both_of (read_as MaybeText (h i)) (read_as r (k i))) (read_as t (j i))) ∙ fault_of_three MaybeText r t a b d h k j i
           ∙ sym (operands_first its l asc sl (operands a b d) (h ∷ k ∷ j ∷ []) i (sa, (sb, (sd, tt))))
@@ -313,14 +313,14 @@ module _ (g : Fun) (r t : Reading) (single_r : (vs : Items) → fault_in (read_a
           ∙ trio_given g i.number s.0.0 s.1.0 s.2.0
           ∙ sym (ap (λ x. shown' x (k i) (j i)) s.0.1 ∙ ap (λ x. shown' (s.0.0 ∷ []) x (j i)) s.1.1 ∙ ap (shown' (s.0.0 ∷ []) (s.1.0 ∷ [])) s.2.1)
 
-      trio_stands : Same (trio_value_rows g (rows l a b d)) (value_rows (λ i. list_of (value_in (answer (h i) (k i) (j i)))) its)
+      pub trio_stands : Same (trio_value_rows g (rows l a b d)) (value_rows (λ i. list_of (value_in (answer (h i) (k i) (j i)))) its)
       trio_stands =
           same-trans (same-map out (same-flat (with_trio g) three_stand))
           (same-of (ap (map out) (flat-flat (with_trio g) trios its)
           ∙ map-flat out (λ i. flat_map (with_trio g) (trios i)) its
           ∙ flat-all _ _ its (all_each _ (λ i. given_trio i (loose i) refl ∙ ap (item_rows i.number 1) (where_calm (answer (h i) (k i) (j i)) (loose i) (trio_at g (fill empty (h i)) (k i) (j i)) (loose_is i) (trio_value (h i) (k i) (j i)))) its)))
 
-      trio_few : AllOf (λ (z : List Row). length z ≤ length l + length a + length b + length d) (text_rows l a ∷ restrict_rows (calm_rows l (marks l a b d)) (text_rows l a) ∷ sided l a b d ∷ rows l a b d ∷ [])
+      pub trio_few : AllOf (λ (z : List Row). length z ≤ length l + length a + length b + length d) (text_rows l a ∷ restrict_rows (calm_rows l (marks l a b d)) (text_rows l a) ∷ sided l a b d ∷ rows l a b d ∷ [])
       trio_few =
           let x = few_filled empty h its l a asc sl sa in
           let y = few_sided_left loose (λ i. fill empty (h i)) k its _ _ b asc loop_left texts_stand sb in
@@ -395,7 +395,7 @@ module _ (g : Fun) (r t : Reading) (single_r : (vs : Items) → fault_in (read_a
           same-trans (trio_stands its h k j L A B D asc hl.rows_are ha.rows_are hb.rows_are hd.rows_are)
           (same-of (flat-all _ _ its (all_each _ (λ i. ap (λ x. item_rows i.number 1 (list_of (value_in x))) (sym (is (h i) (k i) (j i)))) its)))) gs hp)
 
-abbrev long_part : (Text × ℤ) × ℤ → List Atom
+abbrev pub long_part : (Text × ℤ) × ℤ → List Atom
 long_part p = text_list (text_part p.0.0 p.0.1 (Some p.1))
 
 abbrev mapped_text : (Text × Text) × Text → List Atom

@@ -83,7 +83,7 @@ module _ {Y : Type 0} (key : Y → ℕ) where
       let r = none_above n (key y) ys (omega arith) a.1 g in
       ap (λ b. cond b (g y) 0 + total (λ z. cond (nat_eq n (key z)) (g z) 0) ys) ne ∙ zero-add _ ∙ r
 
-  later : (n : ℕ) (ys : List Y) → Ascends key n ys → AllOf (λ y. n < key y) ys
+  pub later : (n : ℕ) (ys : List Y) → Ascends key n ys → AllOf (λ y. n < key y) ys
   later n [] a = tt
   later n (y ∷ ys) a = let h = a.0 in (h, all_mono _ _ (λ z (l : key y < key z). omega arith) ys (later (key y) ys a.1))
 

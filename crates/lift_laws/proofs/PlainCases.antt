@@ -1,5 +1,5 @@
 -- The cases of the induction for a literal, nothing, a variable, two parts one after the other, and a binding.
-use Rattle.std.proofs.Common.{◌≡◌, ℕ, ◌+◌, ◌≤◌, Bool, true, false, cond, List, [], ◌∷◌, ◌++◌, length, map, refl, sym, ap, ◌∙◌, subst, arith, nat_eq, Some}
+use Rattle.std.proofs.Common.{◌≡◌, ◌≢◌, ℕ, ◌+◌, ◌≤◌, Bool, true, false, cond, List, [], ◌∷◌, ◌++◌, length, map, refl, sym, ap, ◌∙◌, subst, arith, nat_eq, Some}
 use Rattle.std.proofs.lemmas.Bool.{eq-eqb, eqb-false, and_parts}
 use Rattle.xq_base.specs.Texts.{Text}
 use Rattle.xq_base.specs.Atoms.{Atom, IntAtom, TextAtom, UntypedAtom, BoolAtom}
@@ -14,7 +14,7 @@ use Rattle.core_meaning.specs.Lawful.{nodes, is_sited}
 use Rattle.core_meaning.specs.Work.{free, without}
 use Rattle.lift_laws.specs.Sums.{AllOf, Ascends}
 use Rattle.lift_laws.specs.Iterations.{Iter, num, item_rows, value_rows, loop_rows, cells}
-use Rattle.lift_laws.specs.Bulk.{list_of, value, with_value, bound, faults}
+use Rattle.lift_laws.specs.Bulk.{list_of, value, with_value, bound, faults, sites}
 use Rattle.lift_laws.specs.Worlds.{World, cell_of, Known}
 use Rattle.lift_laws.specs.States.{State, at, Makes, StandsFor, three}
 use Rattle.lift_laws.specs.Shapes.{literal_rows, seq_rows}
@@ -26,7 +26,7 @@ use Rattle.lift_laws.proofs.Simple.{literal_stands, empty_stands, seq_stands}
 use Rattle.lift_laws.proofs.Values.{append_nil, all_two, all_map_back, ValueAt, no_faults}
 use Rattle.lift_laws.proofs.Free.{in_left, in_right, without_keeps}
 use Rattle.lift_laws.proofs.Sizes.{size_values, size_loop, weighs, values_most}
-use Rattle.lift_laws.proofs.Keeping.{grows_trans, grows_self, holds_keep, holds_rows, makes_holds, stands_keep, notes_keep, small_none, small_most, tells_upper, tells_then, faults_from, chunk_none, chunk_then, chunk_makes, walked_quiet, walked_then, walked_more, chunk_told, chunk_below}
+use Rattle.lift_laws.proofs.Keeping.{grows_trans, grows_self, holds_keep, holds_rows, makes_holds, stands_keep, notes_keep, small_none, small_most, tells_upper, tells_then, faults_from, chunk_none, chunk_then, chunk_makes, sited_then, walked_quiet, walked_then, walked_more, chunk_told, chunk_below}
 
 -- a literal is no node
 abbrev pub Plain : Item Text → Type 0
@@ -52,6 +52,7 @@ module _ (docs : Docs) where
   pub lit_lifts : {s s' : State} (n : ℕ) (a : Item Text) (looped : OpId) (vars : ℕ → OpId) (t : OpId) → Plain a → Makes s s' t three (literal_rows a (at s looped).rows) (length (at s looped).rows) → Lifts docs s s' n (Lit a) looped vars t
   lit_lifts {s = s} {s' = s'} n a looped vars t plain m = record {
     chunk = chunk_none n (n + 1) m.grows;
+    sited = tt;
     walked = walked_quiet m.quiet;
     told = λ W N its en.
         let few = same-length en.loop.rows_are ∙ size_loop its in
@@ -66,6 +67,7 @@ module _ (docs : Docs) where
   pub empty_lifts : {s s' : State} (n : ℕ) (looped : OpId) (vars : ℕ → OpId) (t : OpId) → Makes s s' t three [] 0 → Lifts docs s s' n Empty looped vars t
   empty_lifts n looped vars t m = record {
     chunk = chunk_none n (n + 1) m.grows;
+    sited = tt;
     walked = walked_quiet m.quiet;
     told = λ W N its en. (
       (refl, small_most m.small (omega arith)),
@@ -79,6 +81,7 @@ module _ (docs : Docs) where
   pub var_lifts : (s : State) (n x : ℕ) (looped : OpId) (vars : ℕ → OpId) → Lifts docs s s n (Var x) looped vars (vars x)
   var_lifts s n x looped vars = record {
     chunk = chunk_none n (n + 1) (grows_self s);
+    sited = tt;
     walked = walked_quiet refl;
     told = λ W N its en. ((refl, small_none (length s.tables) N), (λ e. (en.scope x (self_free x), tt)));
   }
@@ -93,6 +96,7 @@ module _ (docs : Docs) where
   pub seq_lifts : {s s1 s2 s3 : State} (n : ℕ) (a b : Expr) (looped : OpId) (vars : ℕ → OpId) (ta tb t : OpId) → is_sited n (Seq a b) ≡ true → Lifts docs s s1 n a looped vars ta → Lifts docs s1 s2 (n + nodes a) b looped vars tb → Makes s2 s3 t three (seq_rows (at s2 ta).rows (at s2 tb).rows) (length (at s2 ta).rows + length (at s2 tb).rows) → Lifts docs s s3 n (Seq a b) looped vars t
   seq_lifts {s = s} {s1 = s1} {s2 = s2} {s3 = s3} n a b looped vars ta tb t sited la lb m = record {
     chunk = chunk_makes n (n + nodes a + nodes b) (n + nodes (Seq a b)) (omega arith) (chunk_then n (n + nodes a) (n + nodes a + nodes b) (omega arith) (omega arith) la.chunk lb.chunk) m.grows;
+    sited = sited_then (sites a) (sites b) la.chunk.groups lb.chunk.groups la.sited lb.sited;
     walked = walked_more (walked_then la.walked lb.walked) m.quiet;
     told = λ W N its en.
         let enough = en.enough in
@@ -133,41 +137,54 @@ module _ (docs : Docs) where
       ∙ ap (λ l. with_value x i h.0 ∷ l) (bound_all x b its a.1)
       ∙ ap (λ v. with_value x i v ∷ map (λ j. with_value x j (value docs b j)) its) (sym (ap list_of h.1))
 
-  let_value : (x : ℕ) (b e : Expr) (i : Iter) → ValueAt docs b i → value docs e (with_value x i (value docs b i)) ≡ value docs (Let x b e) i
-  let_value x b e i u = ap (λ w. list_of (val docs e (with_var i.env x (list_of w)) i.vector)) u.1 ∙ sym (ap (λ o. list_of (and_then o (λ v. val docs e (with_var i.env x v) i.vector))) u.1)
+  pub bound_ascends : (x : ℕ) (b : Expr) (its : List Iter) → AllOf (ValueAt docs b) its → Ascends (λ i. i.number) 0 its → Ascends (λ i. i.number) 0 (bound docs x b its)
+  bound_ascends x b its vb asc =
+      subst (λ js. Ascends (λ (i : Iter). i.number) 0 js) (sym (bound_all x b its vb)) (map_ascends (λ (i : Iter). i.number) (λ (i : Iter). i.number) (λ i. with_value x i (value docs b i)) (λ i. refl) 0 its asc)
 
-  module _ {s s1 s2 : State} (n x : ℕ) (b e : Expr) (looped : OpId) (vars : ℕ → OpId) (tb t : OpId) (sited : is_sited n (Let x b e) ≡ true) (lb : Lifts docs s s1 n b looped vars tb) (le : Lifts docs s1 s2 (n + nodes b) e looped (set_var vars x tb) t) where
-    -- a variable of the body: the new one, or one from outside
-    let_var : (W : World) (its : List Iter) → ((y : ℕ) → IsFree y (Let x b e) → StandsFor docs W s (vars y) (λ i. i.env y) its) → StandsFor docs W s1 tb (value docs b) its → bound docs x b its ≡ map (λ i. with_value x i (value docs b i)) its → (y : ℕ) → IsFree y e → (d : Bool) → nat_eq y x ≡ d → StandsFor docs W s1 (set_var vars x tb y) (λ i. i.env y) (bound docs x b its)
-    let_var W its hv hb all y f true q =
+  pub bound_loop : (x : ℕ) (b : Expr) (its : List Iter) → AllOf (ValueAt docs b) its → loop_rows its ≡ loop_rows (bound docs x b its)
+  bound_loop x b its vb = sym (map-map (λ (i : Iter). num i.number ∷ []) (λ i. with_value x i (value docs b i)) its) ∙ ap loop_rows (sym (bound_all x b its vb))
+
+  -- a variable of what follows a binding: the new one, or one from outside
+  module _ {s : State} (W : World) (x : ℕ) (b e : Expr) (vars : ℕ → OpId) (tb : OpId) (its : List Iter) (vb : AllOf (ValueAt docs b) its)
+      (hv : (y : ℕ) → y ≢ x → IsFree y e → StandsFor docs W s (vars y) (λ i. i.env y) its) (hb : StandsFor docs W s tb (value docs b) its) where
+    let_var : (y : ℕ) → IsFree y e → (d : Bool) → nat_eq y x ≡ d → StandsFor docs W s (set_var vars x tb y) (λ i. i.env y) (bound docs x b its)
+    let_var y f true q =
         let c = cell_of W in
+        let all = bound_all x b its vb in
         let rows : value_rows (cells c (value docs b)) its ≡ value_rows (cells c (λ i. i.env y)) (bound docs x b its) =
         flat-all _ _ its (all_each _ (λ (i : Iter). ap (λ d. item_rows i.number 1 (map c (cond d (value docs b i) (i.env y)))) (sym q)) its)
         ∙ sym (flat-map (λ (i : Iter). item_rows i.number 1 (map c (i.env y))) (λ i. with_value x i (value docs b i)) its)
         ∙ ap (value_rows (cells c (λ i. i.env y))) (sym all) in
         let known = subst (AllOf (λ (i : Iter). AllOf (Known docs W) (i.env y))) (sym all) (all-map (λ (i : Iter). AllOf (Known docs W) (i.env y)) (λ i. with_value x i (value docs b i)) its (all_mono _ _ (λ i (k : AllOf (Known docs W) (value docs b i)). subst (λ d. AllOf (Known docs W) (cond d (value docs b i) (i.env y))) (sym q) k) its hb.known)) in
-        subst (λ d. StandsFor docs W s1 (cond d tb (vars y)) (λ i. i.env y) (bound docs x b its)) (sym q) (record { there = holds_rows rows hb.there; known = known })
-    let_var W its hv hb all y f false q =
+        subst (λ d. StandsFor docs W s (cond d tb (vars y)) (λ i. i.env y) (bound docs x b its)) (sym q) (record { there = holds_rows rows hb.there; known = known })
+    let_var y f false q =
         let c = cell_of W in
-        let h = hv y (in_right (free b) (without x (free e)) y (without_keeps x (free e) y (eqb-false y x q) f)) in
+        let all = bound_all x b its vb in
+        let h = hv y (eqb-false y x q) f in
         let rows : value_rows (cells c (λ i. i.env y)) its ≡ value_rows (cells c (λ i. i.env y)) (bound docs x b its) =
         flat-all _ _ its (all_each _ (λ (i : Iter). ap (λ d. item_rows i.number 1 (map c (cond d (value docs b i) (i.env y)))) (sym q)) its)
         ∙ sym (flat-map (λ (i : Iter). item_rows i.number 1 (map c (i.env y))) (λ i. with_value x i (value docs b i)) its)
         ∙ ap (value_rows (cells c (λ i. i.env y))) (sym all) in
         let known = subst (AllOf (λ (i : Iter). AllOf (Known docs W) (i.env y))) (sym all) (all-map (λ (i : Iter). AllOf (Known docs W) (i.env y)) (λ i. with_value x i (value docs b i)) its (all_mono _ _ (λ i (k : AllOf (Known docs W) (i.env y)). subst (λ d. AllOf (Known docs W) (cond d (value docs b i) (i.env y))) (sym q) k) its h.known)) in
-        subst (λ d. StandsFor docs W s1 (cond d tb (vars y)) (λ i. i.env y) (bound docs x b its)) (sym q) (record { there = holds_rows rows (holds_keep lb.chunk.grows h.there); known = known })
+        subst (λ d. StandsFor docs W s (cond d tb (vars y)) (λ i. i.env y) (bound docs x b its)) (sym q) (record { there = holds_rows rows h.there; known = known })
 
+    pub let_scope : (y : ℕ) → IsFree y e → StandsFor docs W s (set_var vars x tb y) (λ i. i.env y) (bound docs x b its)
+    let_scope y f = let_var y f (nat_eq y x) refl
+
+  let_value : (x : ℕ) (b e : Expr) (i : Iter) → ValueAt docs b i → value docs e (with_value x i (value docs b i)) ≡ value docs (Let x b e) i
+  let_value x b e i u = ap (λ w. list_of (val docs e (with_var i.env x (list_of w)) i.vector)) u.1 ∙ sym (ap (λ o. list_of (and_then o (λ v. val docs e (with_var i.env x v) i.vector))) u.1)
+
+  module _ {s s1 s2 : State} (n x : ℕ) (b e : Expr) (looped : OpId) (vars : ℕ → OpId) (tb t : OpId) (sited : is_sited n (Let x b e) ≡ true) (lb : Lifts docs s s1 n b looped vars tb) (le : Lifts docs s1 s2 (n + nodes b) e looped (set_var vars x tb) t) where
     let_inside : (W : World) (N : ℕ) (its : List Iter) → Enters docs W N s (Let x b e) looped vars its → AllOf (ValueAt docs b) its → StandsFor docs W s1 tb (value docs b) its → Enters docs W N s1 e looped (set_var vars x tb) (bound docs x b its)
     let_inside W N its en vb hb =
-        let all = bound_all x b its vb in
         let enough = en.enough in
         record {
           faithful = en.faithful;
           numbered = en.numbered.1;
           enough = omega arith;
-          ascends = subst (λ js. Ascends (λ (i : Iter). i.number) 0 js) (sym all) (map_ascends (λ (i : Iter). i.number) (λ (i : Iter). i.number) (λ i. with_value x i (value docs b i)) (λ i. refl) 0 its en.ascends);
-          loop = holds_rows (sym (map-map (λ (i : Iter). num i.number ∷ []) (λ i. with_value x i (value docs b i)) its) ∙ ap loop_rows (sym all)) (holds_keep lb.chunk.grows en.loop);
-          scope = λ y f. let_var W its en.scope hb all y f (nat_eq y x) refl;
+          ascends = bound_ascends x b its vb en.ascends;
+          loop = holds_rows (bound_loop x b its vb) (holds_keep lb.chunk.grows en.loop);
+          scope = let_scope W x b e vars tb its vb (λ y ne f. stands_keep lb.chunk.grows (en.scope y (in_right (free b) (without x (free e)) y (without_keeps x (free e) y ne f)))) hb;
         }
 
     let_back : (W : World) (its : List Iter) → AllOf (ValueAt docs b) its → StandsFor docs W s2 t (value docs e) (bound docs x b its) → StandsFor docs W s2 t (value docs (Let x b e)) its
@@ -186,6 +203,7 @@ module _ (docs : Docs) where
     pub let_lifts : Lifts docs s s2 n (Let x b e) looped vars t
     let_lifts = record {
       chunk = chunk_makes n (n + nodes b + nodes e) (n + nodes (Let x b e)) (omega arith) (chunk_then n (n + nodes b) (n + nodes b + nodes e) (omega arith) (omega arith) lb.chunk le.chunk) (grows_self s2);
+      sited = sited_then (sites b) (sites e) lb.chunk.groups le.chunk.groups lb.sited le.sited;
       walked = walked_then lb.walked le.walked;
       told = λ W N its en.
           let enough = en.enough in

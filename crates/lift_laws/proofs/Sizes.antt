@@ -48,7 +48,7 @@ count_list None = refl
 count_list (Some v) = refl
 
 -- the items of each variable that is used
-used_most : (env : Env) (xs : List ℕ) (y : ℕ) → is_member y xs ≡ true → length (env y) ≤ items_used xs env
+pub used_most : (env : Env) (xs : List ℕ) (y : ℕ) → is_member y xs ≡ true → length (env y) ≤ items_used xs env
 used_most env [] y h = absurd (true≢false (sym h))
 used_most env (x ∷ xs) y h = go (nat_eq y x) refl h (λ k. used_most env xs y k)
   where

@@ -26,7 +26,7 @@ use Rattle.lift_laws.proofs.Picks.{all_mono, total-all}
 use Rattle.lift_laws.proofs.Sizes.{size_loop, size_cells, total_most}
 use Rattle.lift_laws.proofs.Keeping.{small_less}
 use Rattle.lift_laws.proofs.Simple.{keep_ascends}
-use Rattle.lift_laws.proofs.Marks.{unmarked_stands, marked_stands, exact_keep, fault_in, weigh, CodeIn, code_self, code_apart, call_tells}
+use Rattle.lift_laws.proofs.Marks.{unmarked_stands, marked_stands, exact_keep, fault_in, weigh, CodeIn, code_self, code_apart, rule_tells}
 use Rattle.lift_laws.proofs.Cleared.{AllMark, marks_keep, keep_twice, keep_all_true}
 
 -- the first code whose test holds
@@ -166,7 +166,7 @@ module _ (docs : Docs) {s s' : State} (site : Site) (r : Rule) (looped : OpId) (
     told_here : Tells N s' (length s.tables) (length s'.tables) (record { site = site; checks = cs } ∷ []) (call_faults docs site r gs its)
         × (call_faults docs site r gs its ≡ [] → Holds s' t three (value_rows (λ i. list_of (value_in (call_answer docs site r gs i))) its))
     told_here = (
-      call_tells docs site r gs its N s s' cs exact (all_mono _ _ (λ i (e : codes i ≡ firsts_at i). subst (λ o. CodeIn o cs) (sym e) (first_in cs (tests gs) i)) its code_is)
+      rule_tells site (call_answer docs site r gs) its N s s' cs exact (all_mono _ _ (λ i (e : codes i ≡ firsts_at i). subst (λ o. CodeIn o cs) (sym e) (first_in cs (tests gs) i)) its code_is)
           (all_mono _ _ (λ (c : Check) (l : PlacedCheck s' site c). let l0 = l.0 in let q : Small s' (length s.tables) (c.op.0 + 1) N = small_less (omega arith) all_small in q) cs in_cs)
           (λ z. all_small),
       values its gs tree asc hl hp rooted,

@@ -32,11 +32,11 @@ map_nil : {A B : Type 0} (f : A → B) (xs : List A) → map f xs ≡ [] → xs 
 map_nil f [] e = refl
 map_nil f (x ∷ xs) e = cc
 
-all_front : {A : Type 0} (P : A → Type 0) (xs ys : List A) → AllOf P (xs ++ ys) → AllOf P xs
+pub all_front : {A : Type 0} (P : A → Type 0) (xs ys : List A) → AllOf P (xs ++ ys) → AllOf P xs
 all_front P [] ys a = tt
 all_front P (x ∷ xs) ys a = (a.0, all_front P xs ys a.1)
 
-all_behind : {A : Type 0} (P : A → Type 0) (xs ys : List A) → AllOf P (xs ++ ys) → AllOf P ys
+pub all_behind : {A : Type 0} (P : A → Type 0) (xs ys : List A) → AllOf P (xs ++ ys) → AllOf P ys
 all_behind P [] ys a = a
 all_behind P (x ∷ xs) ys a = all_behind P xs ys a.1
 
@@ -90,6 +90,14 @@ module _ {A : Type 0} where
       let r = each_has (λ k v. F (in_loop x p i.env k v) (deeper i.vector k)) i 1 h.0 a' in
       (r.0, ap (λ q. and_then q (each_from (λ k v. F (in_loop x p i.env k v) (deeper i.vector k)) 1)) h.1 ∙ r.1)
 
+  pub for_list : (x p : ℕ) (F : Env → List ℕ → Option (List A)) (o : Option Items) (i : Iter) → Has o → AllOf (λ t. Has (F (in_loop x p i.env t.place t.item) (deeper i.vector t.place))) (turns_of i 1 (list_of o))
+      → list_of (and_then o (each_from (λ k v. F (in_loop x p i.env k v) (deeper i.vector k)) 1)) ≡ joined (bodies (λ j k v. list_of (F (in_loop x p i.env k v) (deeper i.vector k))) i 1 (list_of o))
+  for_list x p F o i h a =
+      let a' = subst (λ vs. AllOf (λ t. Has (F (in_loop x p i.env t.place t.item) (deeper i.vector t.place))) (turns_of i 1 vs)) (ap list_of h.1) a in
+      ap (λ q. list_of (and_then q (each_from (λ k v. F (in_loop x p i.env k v) (deeper i.vector k)) 1))) h.1
+      ∙ each_value (λ k v. F (in_loop x p i.env k v) (deeper i.vector k)) i 1 h.0 a'
+      ∙ ap (λ vs. joined (bodies (λ j k v. list_of (F (in_loop x p i.env k v) (deeper i.vector k))) i 1 vs)) (sym (ap list_of h.1))
+
   if_has : (o : Option Items) (a b : Option A) → Has o → (chosen_in o ≡ true → Has a) → (other_in o ≡ true → Has b) → Has (and_then o (λ v. cond (holds v) a b))
   if_has o a b h ha hb = go (holds h.0) refl
     where
@@ -110,13 +118,15 @@ given_back : (P : ℕ → Turn → Type 0) (Q : Turn → Type 0) → ((n : ℕ) 
 given_back P Q h n [] a = tt
 given_back P Q h n (t ∷ ts) a = (h n _ a.0, given_back P Q h (n + 1) ts a.1)
 
+-- what holds of all turns, whatever their numbers, holds of the turns of each iteration
+pub turns_each : (Q : Iter → ℕ → Item Text → Type 0) (f : Iter → Items) (its : List Iter) → AllOf (λ t. Q t.outer t.place t.item) (turns f its) → AllOf (λ i. AllOf (λ t. Q t.outer t.place t.item) (turns_of i 1 (f i))) its
+turns_each Q f its a = all_flat_back (λ t. Q t.outer t.place t.item) (λ i. turns_of i 1 (f i)) its (given_back (λ n t. Q t.outer t.place t.item) (λ t. Q t.outer t.place t.item) (λ n t h. h) 1 (all_turns f its) a)
+
 -- what holds of every turn's body holds of the turns of each iteration
 pub turns_back_of : {O : Type 0} (P : O → Type 0) (x p : ℕ) (F : Env → List ℕ → O) (f : Iter → Items) (its : List Iter) → AllOf (λ i. P (F i.env i.vector)) (map (iter_of x p) (turns f its)) → AllOf (λ i. AllOf (λ t. P (F (in_loop x p i.env t.place t.item) (deeper i.vector t.place))) (turns_of i 1 (f i))) its
 turns_back_of P x p F f its a =
     let b = all_map_back (λ (i : Iter). P (F i.env i.vector)) (iter_of x p) (turns f its) a in
-    let Q = λ (t : Turn). P (F (in_loop x p t.outer.env t.place t.item) (deeper t.outer.vector t.place)) in
-    let c = given_back (λ n t. Q t) Q (λ n t h. h) 1 (all_turns f its) b in
-    let d = all_flat_back Q (λ i. turns_of i 1 (f i)) its c in
+    let d = turns_each (λ i k v. P (F (in_loop x p i.env k v) (deeper i.vector k))) f its b in
     all_mono _ _ (λ i h. own i 1 (f i) h) its d
   where
     own : (i : Iter) (k : ℕ) (vs : Items) → AllOf (λ t. P (F (in_loop x p t.outer.env t.place t.item) (deeper t.outer.vector t.place))) (turns_of i k vs) → AllOf (λ t. P (F (in_loop x p i.env t.place t.item) (deeper i.vector t.place))) (turns_of i k vs)
@@ -139,7 +149,7 @@ outer_turns : (P : Iter → Type 0) (i : Iter) (k : ℕ) (vs : Items) → P i �
 outer_turns P i k [] h = tt
 outer_turns P i k (v ∷ vs) h = (h, outer_turns P i (k + 1) vs h)
 
-given_outer : (P : Iter → Type 0) (n : ℕ) (ts : List Turn) → AllOf (λ t. P t.outer) ts → AllOf (λ t. P t.outer) (given n ts)
+pub given_outer : (P : Iter → Type 0) (n : ℕ) (ts : List Turn) → AllOf (λ t. P t.outer) ts → AllOf (λ t. P t.outer) (given n ts)
 given_outer P n [] a = tt
 given_outer P n (t ∷ ts) a = (a.0, given_outer P (n + 1) ts a.1)
 

@@ -46,7 +46,7 @@ use Rattle.lift_laws.proofs.Multi.{same-of, same-trans, same-map, same-flat, sam
 use Rattle.lift_laws.proofs.Picks.{all_each, all_mono, all-map, all-flat, flat-all, flat-flat, map-append, map-flat, map-map}
 use Rattle.lift_laws.proofs.Sizes.{map_length, total_most_all}
 use Rattle.lift_laws.proofs.Keeping.{append_none, grows_trans, makes_holds, small_join, small_keep, small_less, small_most}
-use Rattle.lift_laws.proofs.Marks.{marked_stands, exact_keep, fault_in, weigh, CodeIn, code_self, call_tells}
+use Rattle.lift_laws.proofs.Marks.{marked_stands, exact_keep, fault_in, weigh, CodeIn, code_self, rule_tells}
 use Rattle.lift_laws.proofs.Staged.{args_few}
 use Rattle.lift_laws.proofs.Stagings.{calm_calls}
 use Rattle.lift_laws.proofs.ItemCase.{fails_at, marks_fail}
@@ -267,7 +267,7 @@ module _ (docs : Docs) (s s1 s2 s3 s4 : State) (site : Site) (texts : List Text)
     told_here : Tells N s4 (length s.tables) (length s4.tables) (record { site = site; checks = the_check ∷ [] } ∷ []) (call_faults docs site rule (g ∷ []) its)
         × (call_faults docs site rule (g ∷ []) its ≡ [] → Holds s4 t three (value_rows (λ i. list_of (value_in (call_answer docs site rule (g ∷ []) i))) its))
     told_here = (
-      call_tells docs site rule (g ∷ []) its N s s4 (the_check ∷ []) (exact, tt) (all_each _ (λ i. code_in (g i)) its) ((let l = lengths in let q = l.0 in small_less (omega arith) small_first), tt)
+      rule_tells site (call_answer docs site rule (g ∷ [])) its N s s4 (the_check ∷ []) (exact, tt) (all_each _ (λ i. code_in (g i)) its) ((let l = lengths in let q = l.0 in small_less (omega arith) small_first), tt)
           (λ z.
           let l = lengths in
           let q = l.1 in

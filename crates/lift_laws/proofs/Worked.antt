@@ -1,5 +1,5 @@
 -- The definitions on small expressions and tables.
-use Rattle.std.proofs.Common.{◌≡◌, ℕ, ◌+◌, List, [], ◌∷◌, pos, map, Some, None, true, false, refl}
+use Rattle.std.proofs.Common.{◌≡◌, ℕ, ◌+◌, Bool, true, false, List, [], ◌∷◌, pos, map, Some, None, refl}
 use Rattle.std.specs.List.{filter}
 use Rattle.xq_base.specs.declared.item.Atom.TheVariants as a
 use Rattle.xq_base.specs.declared.axis.Axis.TheVariants as x
@@ -16,7 +16,7 @@ use Rattle.plan_dag.specs.declared.op.Op.TheVariants as o
 use Rattle.plan_dag.specs.ItemRules.{Cell}
 use Rattle.plan_dag.specs.Meaning.{Graph}
 use Rattle.core_meaning.specs.declared.node.Occurs.TheVariants as v
-use Rattle.core_meaning.specs.Expr.{Site, Apply, Make, Expr, Exprs, Lit, Var, Seq, For, Call, no_more, one_more}
+use Rattle.core_meaning.specs.Expr.{Site, Order, Apply, Make, Expr, Exprs, Spine, Lit, Var, Seq, For, Call, no_more, one_more, Leaf, ForBind, WhereBind}
 use Rattle.core_meaning.specs.Meaning.{no_variables}
 use Rattle.core_meaning.specs.Failures.{fails}
 use Rattle.core_meaning.specs.Work.{work}
@@ -35,6 +35,8 @@ use Rattle.lift_laws.specs.Ranges.{range_marks, range_value_rows}
 use Rattle.lift_laws.specs.TextParts.{part_marks, part_rows, Maps, trio_rows, trio_value_rows}
 use Rattle.lift_laws.specs.Joins.{joined_rows, join_loop, blank_rows}
 use Rattle.lift_laws.specs.Conversions.{kind_marks}
+use Rattle.lift_laws.specs.Tuples.{numbers, tuples_all, tuples_at}
+use Rattle.lift_laws.specs.Sorted.{key_rows, by_keys_rows, order_rows, mixed_rows}
 
 abbrev root : Iter
 root = record { number = 1; env = no_variables; vector = [] }
@@ -229,6 +231,49 @@ no_document = refl
 
 no_element : other_type_rows (OfNodes (ElementNodes (Some (97 ∷ [])))) v.One ((num 1 ∷ []) ∷ []) ((num 1 ∷ num 1 ∷ node 2 ∷ []) ∷ []) ≡ (num 1 ∷ []) ∷ []
 no_element = refl
+
+-- the tuples of two loops, of which the second has a condition: for $x in (5, 1) for $y in (2, 7) where $x lt $y order by $y
+chosen_pairs : Spine
+chosen_pairs = ForBind 1 2 (Seq (int 5) (int 1)) (ForBind 3 4 (Seq (int 2) (int 7)) (WhereBind (Call (site 9) (Apply f.Lt) (two (Var 1) (Var 3))) (Leaf (one_more (Var 3) no_more) (Var 1))))
+
+abbrev two_iterations : List Iter
+two_iterations = root ∷ record { number = 3; env = no_variables; vector = 7 ∷ [] } ∷ []
+
+tuples_numbered : map (λ (l : Iter). l.number) (tuples_all [] chosen_pairs two_iterations) ≡ 2 ∷ 3 ∷ 4 ∷ 6 ∷ 7 ∷ 8 ∷ []
+unfolding chosen_pairs
+tuples_numbered = refl
+
+tuples_of_each : map (λ i. numbers (tuples_at [] chosen_pairs two_iterations i)) two_iterations ≡ (num 2 ∷ num 3 ∷ num 4 ∷ []) ∷ (num 6 ∷ num 7 ∷ num 8 ∷ []) ∷ []
+unfolding chosen_pairs
+tuples_of_each = refl
+
+-- an untyped value of a key is a string
+key_read : key_rows ((num 1 ∷ num 1 ∷ num 5 ∷ []) ∷ (num 2 ∷ num 1 ∷ UntypedItem (7 ∷ []) ∷ []) ∷ (num 3 ∷ num 1 ∷ TextItem (8 ∷ []) ∷ []) ∷ []) ≡ (num 2 ∷ num 1 ∷ TextItem (7 ∷ []) ∷ []) ∷ (num 1 ∷ num 1 ∷ num 5 ∷ []) ∷ (num 3 ∷ num 1 ∷ TextItem (8 ∷ []) ∷ []) ∷ []
+key_read = refl
+
+-- tuples 1, 2 and 3 of iteration 4 by two keys: the first one is 6, 5 and 6, the second one absent, 1 and 2; then their bodies
+abbrev three_tuples : List Row
+three_tuples = (num 4 ∷ num 1 ∷ num 1 ∷ []) ∷ (num 4 ∷ num 2 ∷ num 2 ∷ []) ∷ (num 4 ∷ num 3 ∷ num 3 ∷ []) ∷ []
+
+abbrev tuple_loop : List Row
+tuple_loop = (num 1 ∷ []) ∷ (num 2 ∷ []) ∷ (num 3 ∷ []) ∷ []
+
+abbrev two_keys : List (List Row)
+two_keys = ((num 1 ∷ num 1 ∷ num 6 ∷ []) ∷ (num 2 ∷ num 1 ∷ num 5 ∷ []) ∷ (num 3 ∷ num 1 ∷ num 6 ∷ []) ∷ []) ∷ ((num 2 ∷ num 1 ∷ num 1 ∷ []) ∷ (num 3 ∷ num 1 ∷ num 2 ∷ []) ∷ []) ∷ []
+
+abbrev ordered_as : Bool → Bool → Order
+ordered_as descending empty_greatest = record { descending = descending; empty_greatest = empty_greatest }
+
+by_two_keys : by_keys_rows (ordered_as false false ∷ ordered_as false true ∷ []) tuple_loop two_keys three_tuples ≡ (num 4 ∷ num 3 ∷ num 1 ∷ []) ∷ (num 4 ∷ num 1 ∷ num 2 ∷ []) ∷ (num 4 ∷ num 2 ∷ num 3 ∷ []) ∷ []
+by_two_keys = refl
+
+downwards : order_rows (ordered_as true false ∷ ordered_as false false ∷ []) tuple_loop two_keys three_tuples ((num 1 ∷ num 1 ∷ num 7 ∷ []) ∷ (num 2 ∷ num 1 ∷ num 8 ∷ []) ∷ (num 2 ∷ num 2 ∷ num 9 ∷ []) ∷ []) ≡ (num 4 ∷ num 1 ∷ num 7 ∷ []) ∷ (num 4 ∷ num 2 ∷ num 8 ∷ []) ∷ (num 4 ∷ num 3 ∷ num 9 ∷ []) ∷ []
+downwards = refl
+
+-- a number and a text of one key, and a key of two values, are refused; an absent value goes with each
+mixed_keys : mixed_rows ((num 4 ∷ []) ∷ (num 5 ∷ []) ∷ (num 6 ∷ []) ∷ []) ((num 4 ∷ num 1 ∷ num 1 ∷ []) ∷ (num 4 ∷ num 2 ∷ num 2 ∷ []) ∷ (num 5 ∷ num 1 ∷ num 3 ∷ []) ∷ (num 6 ∷ num 1 ∷ num 4 ∷ []) ∷ (num 6 ∷ num 2 ∷ num 5 ∷ []) ∷ [])
+    (((num 1 ∷ num 1 ∷ num 6 ∷ []) ∷ (num 2 ∷ num 1 ∷ UntypedItem [] ∷ []) ∷ (num 3 ∷ num 1 ∷ num 6 ∷ []) ∷ (num 3 ∷ num 2 ∷ num 6 ∷ []) ∷ (num 5 ∷ num 1 ∷ TextItem [] ∷ []) ∷ []) ∷ []) ≡ (num 4 ∷ []) ∷ (num 5 ∷ []) ∷ []
+mixed_keys = refl
 
 -- the plan of the literal 5: a loop of one iteration, the position, the item
 five : Graph

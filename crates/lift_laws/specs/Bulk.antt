@@ -77,6 +77,29 @@ abbrev mutual
   walks_in (LetBind x b sp) = walks b ++ walks_in sp
   walks_in (WhereBind c sp) = walks c ++ walks_in sp
 
+-- the sites of the nodes that have a rule of their own, in order
+abbrev mutual
+  pub sites : Expr → List Site
+  sites (Lit a) = []
+  sites Empty = []
+  sites (Var x) = []
+  sites (Seq a b) = sites a ++ sites b
+  sites (Let x b e) = sites b ++ sites e
+  sites (For x p s e) = sites s ++ sites e
+  sites (If c a b) = sites c ++ (sites a ++ sites b)
+  sites (Sorted site os sp) = sites_in sp ++ site ∷ []
+  sites (Call site r es) = sites_all es ++ site ∷ []
+
+  pub sites_all : Exprs → List Site
+  sites_all no_more = []
+  sites_all (one_more e es) = sites e ++ sites_all es
+
+  pub sites_in : Spine → List Site
+  sites_in (Leaf ks e) = sites_all ks ++ sites e
+  sites_in (ForBind x p s sp) = sites s ++ sites_in sp
+  sites_in (LetBind x b sp) = sites b ++ sites_in sp
+  sites_in (WhereBind c sp) = sites c ++ sites_in sp
+
 module _ (docs : Docs) where
   -- the value in an iteration, nothing where it fails
   abbrev pub value : Expr → Iter → Items

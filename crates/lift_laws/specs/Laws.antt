@@ -24,7 +24,7 @@ use Rattle.plan_dag.specs.ItemRules.{Cell, item_rules}
 use Rattle.plan_dag.specs.Meaning.{Graph, table_of, tables, demand_of, answer_from}
 use Rattle.plan_dag.specs.Schema.{is_valid}
 use Rattle.plan_dag.specs.Graphs.{Adds, in_graph, with_check}
-use Rattle.core_meaning.specs.Expr.{Site, Rule, Apply, Walk, IsOf, TreatAs, ConvertTo, CastTo, CastableTo, FailWith, Expr, Exprs, Lit, Empty, Var, Seq, Let, For, If, Call, no_more, one_more}
+use Rattle.core_meaning.specs.Expr.{Site, Rule, Apply, Walk, IsOf, TreatAs, ConvertTo, CastTo, CastableTo, FailWith, Expr, Exprs, Lit, Empty, Var, Seq, Let, For, If, Call, no_more, one_more, Spine, Leaf, ForBind, LetBind, WhereBind, Order, Sorted}
 use Rattle.core_meaning.specs.declared.node.Occurs.{Occurs}
 use Rattle.core_meaning.specs.declared.node.StepFrom.{StepFrom}
 use Rattle.core_meaning.specs.Types.{NoItems}
@@ -32,7 +32,9 @@ use Rattle.core_meaning.specs.Rules.{no_node_code}
 use Rattle.core_meaning.specs.Meaning.{val}
 use Rattle.core_meaning.specs.Failures.{fails}
 use Rattle.core_meaning.specs.Work.{free, without, work}
-use Rattle.core_meaning.specs.Lawful.{nodes, is_sited, sited_all, is_dynamic}
+use Rattle.core_meaning.specs.Lawful.{nodes, is_sited, sited_all, is_dynamic, fits, is_lawful, nodes_all, sited_in}
+use Rattle.core_meaning.specs.PlainCore.{PlainCore}
+use Rattle.core_meaning.specs.ExprOf.{expr_of}
 use Rattle.lift_laws.specs.Sums.{AllOf, Same}
 use Rattle.lift_laws.specs.Iterations.{Row, Iter}
 use Rattle.lift_laws.specs.Bulk.{Fault, faults, cost}
@@ -44,6 +46,10 @@ use Rattle.lift_laws.specs.Carried.{set_var, CarryOne, CarriedFor, Carries, Rest
 use Rattle.lift_laws.specs.Stages.{Stages, ItemRule, rule_of, fun_of, codes_of, item_marks, item_marks_in, item_most, item_most_in, uncastable_rows, castable_most, TextRule, text_fun, absent_item, text_value_rows, boolean_fun, boolean_marks, boolean_rows, boolean_most}
 use Rattle.lift_laws.specs.Pairs.{PairRule, pair_fun, OfEach, TextPairRule, text_pair_fun, filled_rows, pair_codes, pair_marks, pair_most, pair_value_rows, general_fun, general_marks, general_rows, general_most}
 use Rattle.lift_laws.specs.Walks.{node_cols, ordered_rows, walk_rows, walk_test, MakesStep, union_rows, union_marks, path_rows, path_marks}
+use Rattle.lift_laws.specs.Sets.{except_rows, intersect_rows}
+use Rattle.lift_laws.specs.Places.{place_marks, removed_rows, from_rows, place_most, inserted_rows, inserted_most, index_marks, index_rows, index_most}
+use Rattle.lift_laws.specs.Distinct.{distinct_rows, distinct_most}
+use Rattle.lift_laws.specs.Slices.{slice_marks, slice_rows, slice_most}
 use Rattle.lift_laws.specs.Sequences.{rows_at, concat_rows, concat_marks, concat_most, reversed_rows}
 use Rattle.lift_laws.specs.Aggregates.{AggRule, agg_fun, agg_value_rows, agg_marks, agg_most, sum_or_rows, sum_or_marks, sum_or_most}
 use Rattle.lift_laws.specs.TypeTests.{TypeTest, NodeType, Anything, Atomic, OfKind, OfNodes, sequence_test, other_type_rows, count_marks_of}
@@ -51,7 +57,11 @@ use Rattle.lift_laws.specs.Ranges.{range_marks, range_value_rows, range_most}
 use Rattle.lift_laws.specs.TextParts.{part_marks, part_rows, part_most, TrioRule, trio_fun, trio_marks, trio_rows, trio_value_rows, trio_most}
 use Rattle.lift_laws.specs.Joins.{joined_rows, joined_most, join_marks, join_loop, blank_rows}
 use Rattle.lift_laws.specs.Conversions.{kind_marks, strict_marks}
-use Rattle.lift_laws.specs.Verdicts.{Verdict, SmallFrom}
+use Rattle.lift_laws.specs.Tuples.{as_expr, LiftsIn}
+use Rattle.lift_laws.specs.Sorted.{tuple_rows, mixed_rows, mixed_most, order_rows, order_most}
+use Rattle.lift_laws.specs.Verdicts.{OfNode, Verdict, SmallFrom}
+use Rattle.lift_laws.specs.Existence.{Numbered, WorldFor}
+use Rattle.lift_laws.specs.Plans.{LiftsCore, Computes}
 
 -- where nothing fails in any iteration, each has a value
 abbrev pub ValuesWhereNothingFails : Type 0
@@ -304,9 +314,9 @@ CostIsWork = (docs : Docs) (e : Expr) (i : Iter) → cost docs e (i ∷ []) ≡ 
 
 -- the first check that has a row answers the least failure; where none has one nothing fails, and the root's table is the answer
 abbrev pub ChecksAnswer : Type 0
-ChecksAnswer = (R : Rules Cell) (fs : List Fault) (root : Option OpId) (N : ℕ) (s : State) (lo hi : ℕ) (gs : List Group) → Tells N s lo hi gs fs
-    → AllOf (λ g. InCodeOrder g.checks) gs → AllOf (λ g. AllOf (λ (c : Check). c.offset ≡ g.site.offset) g.checks) gs
-    → Verdict R s.tables fs root (answer_from R s.tables (checks_of gs) root)
+ChecksAnswer = (R : Rules Cell) (fs : List Fault) (root : Option OpId) (ss : List Site) (N : ℕ) (s : State) (lo hi : ℕ) (gs : List Group) → Tells N s lo hi gs fs
+    → AllOf (λ g. InCodeOrder g.checks) gs → AllOf (λ g. AllOf (OfNode ss g.site) g.checks) gs
+    → Verdict R s.tables fs root ss (answer_from R s.tables (checks_of gs) root)
 
 -- behind an answer no operator has more rows than the demand
 abbrev pub DemandsAreSmall : Type 0
@@ -421,3 +431,107 @@ StrictCastsLift = (docs : Docs) (s s1 s2 : State) (site : Site) (kind : AtomKind
     → Makes s s1 t three (item_value_rows (f.CastTo kind) (at s a).rows) (length (at s a).rows)
     → Stages site (length (at s looped).rows + length (at s a).rows) s1 s2 (at s looped).rows (strict_marks kind (at s looped).rows (at s a).rows) cs
     → CallLifts docs s s2 site (CastTo kind false) looped (a ∷ []) t
+
+-- a world exists for every expression whose sites are its nodes' numbers and whose literals are atomic values
+abbrev pub WorldExists : Type 0
+WorldExists = (docs : Docs) (n size : ℕ) (vars : List ℕ) (e : Expr) (its : List Iter) → is_sited n e ≡ true → fits vars e ≡ true → Numbered size its → WorldFor docs e its
+
+-- a plan that lifts a lawful Core answers its first failure or the cells of its value, within its work; its steps are the Core's,
+-- and where nothing fails each reads what the step reads over all reached evaluations
+abbrev pub PlansAnswer : Type 0
+PlansAnswer = (docs : Docs) (texts : List Text) (core : PlainCore) (g : Graph) → is_lawful (expr_of core) ≡ true → LiftsCore texts (expr_of core) g → Computes docs texts (expr_of core) g
+
+-- the tuples of a sorted loop: their keys, their body, and a row for each
+abbrev pub TuplesLift : Type 0
+TuplesLift = (docs : Docs) (s s1 s2 s3 : State) (n : ℕ) (ks : Exprs) (e : Expr) (looped : OpId) (vars : ℕ → OpId) (keys : List OpId) (body t : OpId) → sited_in n (Leaf ks e) ≡ true
+    → LiftsAll docs s s1 n ks looped vars keys → Lifts docs s1 s2 (n + nodes_all ks) e looped vars body
+    → Makes s2 s3 t three (tuple_rows (at s2 looped).rows) (length (at s2 looped).rows)
+    → LiftsIn docs s s3 n (Leaf ks e) looped vars looped t keys body
+
+-- a loop among its binds: the map of its turns, the loop inside, its variables and those carried into it, what follows, and the tuples' way back
+abbrev pub LoopBindsLift : Type 0
+LoopBindsLift = (docs : Docs) (s s1 s2 s3 s4 s5 s6 s7 s8 : State) (n x p : ℕ) (q : Expr) (sp : Spine) (looped : OpId) (vars vars' : ℕ → OpId) (tq m turned vx vp inner tu t : OpId) (keys : List OpId) (body : OpId) → sited_in n (ForBind x p q sp) ≡ true
+    → Lifts docs s s1 n q looped vars tq
+    → Makes s1 s2 m four (turn_map (at s1 tq).rows) (length (at s1 tq).rows)
+    → Makes s2 s3 turned single (inner_rows (at s2 m).rows) (length (at s2 m).rows)
+    → Makes s3 s4 vx three (item_var_rows (at s3 m).rows) (length (at s3 m).rows)
+    → Makes s4 s5 vp three (place_var_rows (at s4 m).rows) (length (at s4 m).rows)
+    → Carries s5 s6 m vars vars' x p (as_expr sp)
+    → LiftsIn docs s6 s7 (n + nodes q) sp turned (set_var (set_var vars' x vx) p vp) inner tu keys body
+    → Makes s7 s8 t three (back_rows (at s7 m).rows (at s7 tu).rows) (length (at s7 m).rows + length (back_rows (at s7 m).rows (at s7 tu).rows))
+    → LiftsIn docs s s8 n (ForBind x p q sp) looped vars inner t keys body
+
+-- a variable among its binds: what follows, with the bound part's table for the variable
+abbrev pub VariableBindsLift : Type 0
+VariableBindsLift = (docs : Docs) (s s1 s2 : State) (n x : ℕ) (b : Expr) (sp : Spine) (looped : OpId) (vars : ℕ → OpId) (tb inner tu : OpId) (keys : List OpId) (body : OpId) → sited_in n (LetBind x b sp) ≡ true
+    → Lifts docs s s1 n b looped vars tb → LiftsIn docs s1 s2 (n + nodes b) sp looped (set_var vars x tb) inner tu keys body → LiftsIn docs s s2 n (LetBind x b sp) looped vars inner tu keys body
+
+-- a condition among its binds: the loop of the iterations that it chooses, the variables restricted to them, and what follows
+abbrev pub ConditionBindsLift : Type 0
+ConditionBindsLift = (docs : Docs) (s s1 s2 s3 s4 : State) (n : ℕ) (d : Expr) (sp : Spine) (looped : OpId) (vars vars' : ℕ → OpId) (tc kept inner tu : OpId) (keys : List OpId) (body : OpId) → sited_in n (WhereBind d sp) ≡ true
+    → Lifts docs s s1 n d looped vars tc
+    → Makes s1 s2 kept single (chosen_rows (at s1 tc).rows) (length (at s1 tc).rows)
+    → Restricts s2 s3 kept vars vars' (as_expr sp)
+    → LiftsIn docs s3 s4 (n + nodes d) sp kept vars' inner tu keys body
+    → LiftsIn docs s s4 n (WhereBind d sp) looped vars inner tu keys body
+
+-- a sorted loop: its binds, a check of the iterations whose keys can't be compared, and the bodies in the order of the tuples
+abbrev pub SortedLifts : Type 0
+SortedLifts = (docs : Docs) (s s1 s2 s3 s4 : State) (n : ℕ) (site : Site) (os : List Order) (sp : Spine) (looped : OpId) (vars : ℕ → OpId) (inner tu : OpId) (keys : List OpId) (body k t : OpId) → is_sited n (Sorted site os sp) ≡ true
+    → LiftsIn docs s s1 n sp looped vars inner tu keys body
+    → Makes s1 s2 k single (mixed_rows (at s1 looped).rows (at s1 tu).rows (rows_at s1 keys)) (mixed_most (at s1 looped).rows (at s1 tu).rows (rows_at s1 keys))
+    → Checks s2 s3 (record { op = k; code = c.XPTY0004; offset = site.offset })
+    → Makes s3 s4 t three (order_rows os (at s3 inner).rows (rows_at s3 keys) (at s3 tu).rows (at s3 body).rows) (order_most os (at s3 inner).rows (rows_at s3 keys) (at s3 tu).rows (at s3 body).rows)
+    → Lifts docs s s4 n (Sorted site os sp) looped vars t
+
+-- `intersect` and `except`: nodes of the first operand that the second has, or hasn't, each once, by document order, and a check of the iterations with an item that is no node
+abbrev pub IntersectsLift : Type 0
+IntersectsLift = (docs : Docs) (s s1 s2 : State) (site : Site) (looped a b t : OpId) (cs : List Check)
+    → Makes s s1 t three (intersect_rows (at s a).rows (at s b).rows) (length (at s looped).rows + length (at s a).rows + length (at s b).rows)
+    → Stages site (length (at s looped).rows + length (at s a).rows + length (at s b).rows) s1 s2 (at s looped).rows (union_marks (at s looped).rows (at s a).rows (at s b).rows) cs
+    → CallLifts docs s s2 site (Apply f.Intersect) looped (a ∷ b ∷ []) t
+
+abbrev pub ExceptsLift : Type 0
+ExceptsLift = (docs : Docs) (s s1 s2 : State) (site : Site) (looped a b t : OpId) (cs : List Check)
+    → Makes s s1 t three (except_rows (at s a).rows (at s b).rows) (length (at s looped).rows + length (at s a).rows + length (at s b).rows)
+    → Stages site (length (at s looped).rows + length (at s a).rows + length (at s b).rows) s1 s2 (at s looped).rows (union_marks (at s looped).rows (at s a).rows (at s b).rows) cs
+    → CallLifts docs s s2 site (Apply f.Except) looped (a ∷ b ∷ []) t
+
+-- `remove`: the items whose places are others than the one that is asked for, and checks of that one
+abbrev pub RemovesLift : Type 0
+RemovesLift = (docs : Docs) (s s1 s2 : State) (site : Site) (looped a b t : OpId) (cs : List Check)
+    → Makes s s1 t three (removed_rows (at s looped).rows (at s a).rows (at s b).rows) (place_most (at s looped).rows (at s a).rows (at s b).rows)
+    → Stages site (place_most (at s looped).rows (at s a).rows (at s b).rows) s1 s2 (at s looped).rows (place_marks (at s looped).rows (at s b).rows) cs
+    → CallLifts docs s s2 site (Apply f.Remove) looped (a ∷ b ∷ []) t
+
+-- `subsequence` from a place on: the items from that place on, and checks of it
+abbrev pub RestsLift : Type 0
+RestsLift = (docs : Docs) (s s1 s2 : State) (site : Site) (looped a b t : OpId) (cs : List Check)
+    → Makes s s1 t three (from_rows (at s looped).rows (at s a).rows (at s b).rows) (place_most (at s looped).rows (at s a).rows (at s b).rows)
+    → Stages site (place_most (at s looped).rows (at s a).rows (at s b).rows) s1 s2 (at s looped).rows (place_marks (at s looped).rows (at s b).rows) cs
+    → CallLifts docs s s2 site (Apply f.Subsequence) looped (a ∷ b ∷ []) t
+
+-- `index-of`: the places of the items that equal the one that is asked for, and a check of that one
+abbrev pub IndicesLift : Type 0
+IndicesLift = (docs : Docs) (s s1 s2 : State) (site : Site) (looped a b t : OpId) (cs : List Check)
+    → Makes s s1 t three (index_rows (at s looped).rows (at s a).rows (at s b).rows) (index_most (at s looped).rows (at s a).rows (at s b).rows)
+    → Stages site (index_most (at s looped).rows (at s a).rows (at s b).rows) s1 s2 (at s looped).rows (index_marks (at s looped).rows (at s b).rows) cs
+    → CallLifts docs s s2 site (Apply f.IndexOf) looped (a ∷ b ∷ []) t
+
+-- `insert-before`: the items before a place, others, and the items from the place on, and checks of the place
+abbrev pub InsertsLift : Type 0
+InsertsLift = (docs : Docs) (s s1 s2 : State) (site : Site) (looped a b d t : OpId) (cs : List Check)
+    → Makes s s1 t three (inserted_rows (at s looped).rows (at s a).rows (at s b).rows (at s d).rows) (inserted_most (at s looped).rows (at s a).rows (at s b).rows (at s d).rows)
+    → Stages site (inserted_most (at s looped).rows (at s a).rows (at s b).rows (at s d).rows) s1 s2 (at s looped).rows (place_marks (at s looped).rows (at s b).rows) cs
+    → CallLifts docs s s2 site (Apply f.InsertBefore) looped (a ∷ b ∷ d ∷ []) t
+
+-- `subsequence` of a start and a length: of the items from the start on as many as a part of a text has characters, and checks of both
+abbrev pub SlicesLift : Type 0
+SlicesLift = (docs : Docs) (s s1 s2 : State) (site : Site) (looped a b d t : OpId) (cs : List Check)
+    → Makes s s1 t three (slice_rows (at s looped).rows (at s a).rows (at s b).rows (at s d).rows) (slice_most (at s looped).rows (at s a).rows (at s b).rows (at s d).rows)
+    → Stages site (slice_most (at s looped).rows (at s a).rows (at s b).rows (at s d).rows) s1 s2 (at s looped).rows (slice_marks (at s looped).rows (at s a).rows (at s b).rows (at s d).rows) cs
+    → CallLifts docs s s2 site (Apply f.Subsequence) looped (a ∷ b ∷ d ∷ []) t
+
+-- `distinct-values`: the first of equal texts and of other equal values, in the order of their positions
+abbrev pub DistinctsLift : Type 0
+DistinctsLift = (docs : Docs) (s s' : State) (site : Site) (looped a t : OpId) → Makes s s' t three (distinct_rows (at s a).rows) (distinct_most (at s a).rows) → CallLifts docs s s' site (Apply f.DistinctValues) looped (a ∷ []) t

@@ -7,9 +7,13 @@ pub mod Shapes
 pub mod Lifting
 pub mod Carried
 pub mod Verdicts
+pub mod Existence
+pub mod Plans
 pub mod Stages
 pub mod Pairs
 pub mod Walks
+pub mod Sets
+pub mod Places
 pub mod Sequences
 pub mod Aggregates
 pub mod TypeTests
@@ -17,5 +21,9 @@ pub mod Readings
 pub mod Ranges
 pub mod TextParts
 pub mod Joins
+pub mod Slices
+pub mod Distinct
 pub mod Conversions
+pub mod Tuples
+pub mod Sorted
 pub mod Laws

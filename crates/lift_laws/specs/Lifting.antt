@@ -4,6 +4,7 @@ use Rattle.std.specs.List.{filter, flat_map}
 use Rattle.xq_base.specs.declared.code.Code.{Code}
 use Rattle.xq_base.specs.Answers.{Answer, Value, Fault as Refused, check_rank}
 use Rattle.xq_base.specs.Texts.{Text}
+use Rattle.doc_table.specs.Ascending.{In}
 use Rattle.doc_table.specs.Tree.{Tree}
 use Rattle.doc_table.specs.Paths.{has_node}
 use Rattle.doc_table.specs.Identity.{TreeId}
@@ -23,7 +24,7 @@ use Rattle.core_meaning.specs.Work.{is_member, free, free_all, rule_work}
 use Rattle.core_meaning.specs.Lawful.{nodes, nodes_all, is_dynamic}
 use Rattle.lift_laws.specs.Sums.{total, AllOf, Ascends}
 use Rattle.lift_laws.specs.Iterations.{Iter, num, value_rows, loop_rows, cells}
-use Rattle.lift_laws.specs.Bulk.{list_of, value, values_of, Fault, fault, faults, faults_all, cost, cost_all, Step, walks, walks_all, own_walks}
+use Rattle.lift_laws.specs.Bulk.{list_of, value, values_of, Fault, fault, faults, faults_all, cost, cost_all, Step, walks, walks_all, own_walks, sites, sites_all}
 use Rattle.lift_laws.specs.Worlds.{World, cell_of, Known, Faithful, Among, Numbers, NumbersAll}
 use Rattle.lift_laws.specs.States.{State, StepAt, at, IsIn, Small, Grows, Holds, HoldAll, StandsFor, three, single, column}
 use Rattle.lift_laws.specs.Shapes.{bare}
@@ -107,6 +108,10 @@ pub record Chunk (s s' : State) (lo hi : ℕ) : Type 0 where
   pub placed : AllOf (PlacedIn s' lo hi) groups
   pub coded : AllOf (λ g. InCodeOrder g.checks) groups
 
+-- the group is of one of these nodes
+abbrev pub SitedIn : List Site → Group → Type 0
+SitedIn ss g = In g.site ss
+
 -- a call adds the one operator of a step, and no other
 pub record OwnSteps (s s' : State) (site : Site) (r : Rule) (args : List OpId) : Type 0 where
   pub added : List StepAt
@@ -131,9 +136,9 @@ module _ (docs : Docs) where
   abbrev pub PartsKnown : World → Exprs → List Iter → Type 0
   PartsKnown W es its = AllOf (λ i. AllOf (AllOf (Known docs W)) (map (λ g. g i) (values_of docs es))) its
 
-  -- the parts' tables stand for their values in all iterations that reach the node: of a step this is its context
+  -- the note's parts are those of its node, and their tables stand for their values in all iterations that reach it: of a step this is its context
   abbrev pub NoteStands : World → State → Note → Type 0
-  NoteStands W s m = HoldAll s m.ops (part_cells W m.parts) (W m.site.number).its × PartsKnown W m.parts (W m.site.number).its
+  NoteStands W s m = HoldAll s m.ops (part_cells W m.parts) (W m.site.number).its × PartsKnown W m.parts (W m.site.number).its × ((W m.site.number).parts ≡ m.parts)
 
   -- an expression is entered in these iterations: the world has their numbers, the demand is at least their work, and the
   -- tables of the loop and of the free variables stand
@@ -145,10 +150,11 @@ module _ (docs : Docs) where
     pub loop : Holds s looped single (loop_rows its)
     pub scope : (y : ℕ) → IsFree y e → StandsFor docs W s (vars y) (λ i. i.env y) its
 
-  -- for all lists of iterations at once: the checks tell the failures and the demands, and where nothing fails the table
+  -- the checks are of the expression's nodes; for all lists of iterations at once they tell the failures and the demands, and where nothing fails the table
   -- stands for the values, and the notes stand
   pub record Lifts (s s' : State) (n : ℕ) (e : Expr) (looped : OpId) (vars : ℕ → OpId) (t : OpId) : Type 0 where
     pub chunk : Chunk s s' n (n + nodes e)
+    pub sited : AllOf (SitedIn (sites e)) chunk.groups
     pub walked : Walked s s' chunk.notes (walks e)
     pub told : (W : World) (N : ℕ) (its : List Iter) → Enters W N s e looped vars its
         → Tells N s' (length s.tables) (length s'.tables) chunk.groups (faults docs e its)
@@ -165,6 +171,7 @@ module _ (docs : Docs) where
 
   pub record LiftsAll (s s' : State) (n : ℕ) (es : Exprs) (looped : OpId) (vars : ℕ → OpId) (ts : List OpId) : Type 0 where
     pub chunk : Chunk s s' n (n + nodes_all es)
+    pub sited : AllOf (SitedIn (sites_all es)) chunk.groups
     pub walked : Walked s s' chunk.notes (walks_all es)
     pub told : (W : World) (N : ℕ) (its : List Iter) → EntersAll W N s es looped vars its
         → Tells N s' (length s.tables) (length s'.tables) chunk.groups (faults_all docs es its)

@@ -5,6 +5,7 @@ use Rattle.std.specs.List.{filter}
 use Rattle.xq_base.specs.declared.code.Code.{Code}
 use Rattle.xq_base.specs.declared.fun.Fun.{Fun}
 use Rattle.xq_base.specs.declared.fun.Fun.TheVariants as f
+use Rattle.xq_base.specs.declared.fun.ItemKind.{ItemKind}
 use Rattle.doc_table.specs.Items.{BoolItem}
 use Rattle.doc_table.specs.NodeRules.{Docs}
 use Rattle.plan_dag.specs.declared.cols.Col.{Col}
@@ -142,6 +143,10 @@ either_rows a b = beside three a b
 -- the iterations in which an argument has an item
 abbrev pub any_rows : List Row → List Row
 any_rows a = project three (pair 0 0 ∷ []) a
+
+-- those with an item of a kind
+abbrev pub kind_rows : ItemKind → List Row → List Row
+kind_rows kind a = project four (pair 0 0 ∷ []) (filter (λ r. is_true (cell bare four (column 3) r)) (map_rows bare (f.IsKind kind) (cells bare three (column 2 ∷ [])) a))
 
 -- those of a loop that rows name, each once
 abbrev pub named_rows : List Row → List Row → List Row

@@ -1,5 +1,5 @@
 //! Laws of the lift, which a plan's maker cites.
-ghost use Rattle.lift_laws.specs.Laws.{AggregatesLift, AtomConversionsLift, BindingLifts, BooleansLift, BranchCarries, CallsLift, CastableLifts, CheckAdds, ChecksAnswer, ChoiceLifts, ConcatsLift, ConnectivesLift, ConstantsLift, ContentsLift, CostIsWork, CountLifts, DataLifts, DemandsAreSmall, EmptyLifts, EmptyTypesLift, ExactlyOneLifts, ExistsLifts, FailuresAreReached, FailuresLift, GeneralsLift, InstancesLift, ItemConversionsLift, ItemRulesLift, JoinsLift, KindConversionsLift, LiteralLifts, LoopCarries, LoopLifts, NoPartsLift, NodeConversionsLift, NoneCarried, NothingLifts, OneMoreCarried, OneOrMoreLifts, OperatorMakes, PairRulesLift, PartsLift, PartsOfTextsLift, PathsLift, RangesLift, ReverseLifts, RulesAreFair, SequenceLifts, StepMakes, StepsLift, StrictCastsLift, SumsOrLift, TextPairsLift, TextRulesLift, TreatsLift, TreesAreKnown, TriosLift, UnionsLift, ValuesWhereNothingFails, VariableLifts, ZeroOrOneLifts};
+ghost use Rattle.lift_laws.specs.Laws.{AggregatesLift, AtomConversionsLift, BindingLifts, BooleansLift, BranchCarries, CallsLift, CastableLifts, CheckAdds, ChecksAnswer, ChoiceLifts, ConcatsLift, ConditionBindsLift, ConnectivesLift, ConstantsLift, ContentsLift, CostIsWork, CountLifts, DataLifts, DemandsAreSmall, DistinctsLift, EmptyLifts, EmptyTypesLift, ExactlyOneLifts, ExceptsLift, ExistsLifts, FailuresAreReached, FailuresLift, GeneralsLift, IndicesLift, InsertsLift, InstancesLift, IntersectsLift, ItemConversionsLift, ItemRulesLift, JoinsLift, KindConversionsLift, LiteralLifts, LoopBindsLift, LoopCarries, LoopLifts, NoPartsLift, NodeConversionsLift, NoneCarried, NothingLifts, OneMoreCarried, OneOrMoreLifts, OperatorMakes, PairRulesLift, PartsLift, PartsOfTextsLift, PathsLift, PlansAnswer, RangesLift, RemovesLift, RestsLift, ReverseLifts, RulesAreFair, SequenceLifts, SlicesLift, SortedLifts, StepMakes, StepsLift, StrictCastsLift, SumsOrLift, TextPairsLift, TextRulesLift, TreatsLift, TreesAreKnown, TriosLift, TuplesLift, UnionsLift, ValuesWhereNothingFails, VariableBindsLift, VariableLifts, WorldExists, ZeroOrOneLifts};
 
 /// Where nothing fails in any iteration, each has a value.
 #[tactic(auto, using(crate::proofs::Cases::values_where_nothing_fails))]
@@ -311,4 +311,81 @@ pub fn empty_types_lift()
 /// A cast of exactly one item is lifted by a map over the items, and checks of their number and of the casts.
 pub fn strict_casts_lift()
     ensures { StrictCastsLift }
+{}
+
+/// A world exists for every expression whose sites are its nodes' numbers and whose literals are atomic values.
+#[tactic(auto, using(crate::proofs::Existing::world_for))]
+pub fn world_exists()
+    ensures { WorldExists }
+{}
+
+/// A plan that lifts a lawful Core answers its first failure or the cells of its value, within its work.
+#[tactic(auto, using(crate::proofs::Answered::plans_answer))]
+pub fn plans_answer()
+    ensures { PlansAnswer }
+{}
+
+/// The tuples of a sorted loop are lifted by their keys, their body, and a row for each.
+pub fn tuples_lift()
+    ensures { TuplesLift }
+{}
+
+/// A loop among the binds of a sorted loop is lifted by its turns, and the way back of the tuples inside.
+pub fn loop_binds_lift()
+    ensures { LoopBindsLift }
+{}
+
+/// A variable among the binds of a sorted loop is lifted by what follows, with the bound part's table for it.
+pub fn variable_binds_lift()
+    ensures { VariableBindsLift }
+{}
+
+/// A condition among the binds of a sorted loop is lifted by what follows, in the iterations that it chooses.
+pub fn condition_binds_lift()
+    ensures { ConditionBindsLift }
+{}
+
+/// A sorted loop is lifted by its binds, a check of its keys, and its bodies in the order of the tuples.
+pub fn sorted_lifts()
+    ensures { SortedLifts }
+{}
+
+/// `intersect` is lifted by the nodes of the first operand that aren't among those that the second hasn't, each once, by document order, and a check.
+pub fn intersects_lift()
+    ensures { IntersectsLift }
+{}
+
+/// `except` is lifted by the nodes of the first operand that the second hasn't, each once, by document order, and a check.
+pub fn excepts_lift()
+    ensures { ExceptsLift }
+{}
+
+/// `remove` is lifted by a comparison of the places of items with the one that is asked for, and checks of that one.
+pub fn removes_lift()
+    ensures { RemovesLift }
+{}
+
+/// `subsequence` of a start is lifted by a comparison of the places of items with it, and checks of it.
+pub fn rests_lift()
+    ensures { RestsLift }
+{}
+
+/// `index-of` is lifted by a comparison of items with the one that is asked for, and a check of that one.
+pub fn indices_lift()
+    ensures { IndicesLift }
+{}
+
+/// `insert-before` is lifted by the items before a place, others and the items from the place on, one after the other, and checks of the place.
+pub fn inserts_lift()
+    ensures { InsertsLift }
+{}
+
+/// `subsequence` of a start and a length is lifted by the items from the start on, of which as many stay as `substring` leaves characters of a text with one for each item, and checks of both.
+pub fn slices_lift()
+    ensures { SlicesLift }
+{}
+
+/// `distinct-values` is lifted by the first of equal texts and of other equal values among the sorted rows, in the order of their positions.
+pub fn distincts_lift()
+    ensures { DistinctsLift }
 {}
