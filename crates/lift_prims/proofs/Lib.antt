@@ -1,0 +1,10 @@
+pub mod Twins
+pub mod Making
+pub mod Bounds
+pub mod Over
+pub mod ShapeForms
+pub mod StageLaws
+pub mod StagesMade
+pub mod CallLaws
+pub mod ItemLaws
+pub mod Scoped
