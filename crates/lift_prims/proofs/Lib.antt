@@ -5,6 +5,9 @@ pub mod Over
 pub mod ShapeForms
 pub mod StageLaws
 pub mod StagesMade
+pub mod Renamed
 pub mod CallLaws
 pub mod ItemLaws
 pub mod Scoped
+pub mod TruthLaws
+pub mod CountLaws

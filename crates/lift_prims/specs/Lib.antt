@@ -5,3 +5,5 @@ pub mod Shaping
 pub mod Staging
 pub mod ItemForms
 pub mod Scopes
+pub mod TruthForms
+pub mod CountForms

@@ -1,5 +1,5 @@
 //! Forms of operators, made in a plan.
-ghost use Rattle.std.specs.Prelude.{◌≡◌, ◌<◌, true, length, IfOk, List};
+ghost use Rattle.std.specs.Prelude.{◌≡◌, ◌<◌, ◌++◌, true, length, IfOk, List};
 ghost use Rattle.plan_dag.specs.ItemRules.{item_rules};
 ghost use Rattle.plan_dag.specs.Graphs.{in_graph};
 ghost use Rattle.doc_table.specs.NodeRules.{Docs};
@@ -204,4 +204,14 @@ pub(crate) fn make(
         places.push(id)?;
     }
     Ok(places[places.len() - 1])
+}
+
+/// The operators of two forms, one behind the other.
+pub(crate) fn chained(alloc: Global, first: &[Op], second: &[Op]) -> Result<Vec<Op>, Want>
+    ensures { IfOk result (λ form. form.items ≡ first.now ++ second.now) }
+{
+    let mut form = Vec::new(alloc);
+    form.extend_from_slice(first)?;
+    form.extend_from_slice(second)?;
+    Ok(form)
 }

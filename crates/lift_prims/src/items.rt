@@ -12,7 +12,7 @@ use plan_dag::{Op, OpId, Plan};
 use std::alloc::Global;
 use xq_base::{Atom, Code, Fun, Want};
 
-fn item_value_form(fun: Fun) -> [Op; 2]
+pub(crate) fn item_value_form(fun: Fun) -> [Op; 2]
     ensures { result ≡ item_value_form fun }
 {
     [map(1, fun, &[2], 3), project(2, &[(0, 0), (1, 1), (2, 3)])]
@@ -24,7 +24,7 @@ fn item_fails_form(fun: Fun, code: Code) -> [Op; 2]
     [map_fails(1, fun, code, &[2]), project(2, &[(0, 0)])]
 }
 
-fn unfit_form(fun: Fun, code: Code) -> [Op; 7]
+pub(crate) fn unfit_form(fun: Fun, code: Code) -> [Op; 7]
     ensures { result ≡ unfit_form fun code }
 {
     [

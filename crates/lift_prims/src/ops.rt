@@ -1,5 +1,5 @@
 //! The operators of forms, by the places that they read and the numbers of their columns.
-ghost use Rattle.std.specs.Prelude.{◌≡◌, ◌<◌, length, map};
+ghost use Rattle.std.specs.Prelude.{◌≡◌, ◌<◌, true, [], ◌∷◌, length, map};
 ghost use Rattle.plan_dag.specs.declared.op.Op.TheVariants as o;
 ghost use Rattle.lift_laws.specs.States.{column, op_id};
 ghost use Rattle.lift_prims.specs.Listed.{pair_in, key_in, part_in};
@@ -132,6 +132,23 @@ pub(crate) fn rownum(input: u64, col: u8, by: &[u8], part: Option<u8>) -> Op
         input: OpId(input),
         col: Col(col),
         keys: keys(by),
+        part: part.map(Col),
+    }
+}
+
+/// A number for each row in its part, by this column from the greatest cell down.
+pub(crate) fn rownum_down(input: u64, col: u8, by: u8, part: Option<u8>) -> Op
+    ensures { result ≡ o.Rownum (op_id input) (column col) (record { col = column by; descending = true } ∷ []) (part_in part) }
+{
+    let mut keys = Keys::new();
+    keys.push(Key {
+        col: Col(by),
+        descending: true,
+    });
+    Op::Rownum {
+        input: OpId(input),
+        col: Col(col),
+        keys,
         part: part.map(Col),
     }
 }
